@@ -1,0 +1,3 @@
+pub mod BankProofs
+pub mod LawProofs
+pub mod Walking

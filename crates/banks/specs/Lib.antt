@@ -1,0 +1,4 @@
+pub mod Axes
+pub mod Bank
+pub mod BankLaws
+pub mod Cases

@@ -1,0 +1,3 @@
+//! The headings of compensation tables.
+pub mod heading;
+pub mod make;

@@ -1,0 +1,2 @@
+//! Layers that correct a source of positions.
+pub mod sheet_layer;

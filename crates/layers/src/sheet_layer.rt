@@ -1,0 +1,168 @@
+//! A layer that adds the value of a sheet.
+ghost use mathlib.Core.Path.{_≡_};
+ghost use mathlib.Core.List.{[]};
+ghost use lib.Dec.{eqb};
+ghost use lib.IntN.{_+ℤ_};
+ghost use Rattle.std.specs.Vec.{made};
+ghost use Rattle.std.specs.declared.option.Option.the-variants.{None};
+ghost use Rattle.rounding.specs.Bounds.{Within};
+ghost use Rattle.sheets.specs.Tables.{held};
+ghost use Rattle.source.specs.Meaning.{answer-of, offset-answer};
+ghost use Rattle.layers.specs.Laid.{share};
+ghost use Rattle.layers.specs.SheetLayers.{axis-fit, depth-fit, sheet-fit, sheet-target, sheet-value, sheet-put, position-seen};
+use faults::fault::Fault;
+use faults::fault::Part;
+use faults::fault::Refusal;
+use sheets::sheet::Sheet;
+use source::source::Source;
+use values::value::value;
+
+/// A copy of a sheet, on any source. Where it does not fit it is blank: it adds nothing and counts nothing.
+#[derive(Drop)]
+pub struct SheetLayer<S: Source> {
+    below: S,
+    sheet: Sheet,
+}
+
+// Whether a source has an axis that a sheet names.
+fn has_axis<S: Source>(below: &S, axis: usize) -> Result<(), Fault>
+    ensures { λ r. ⌜ r ≡ answer-of (axis-fit axis (S·Source .means (now (below .entry)) [])) ⌝ }
+{
+    if axis >= below.axes() {
+        return Err(Fault::of(Part::Sheet, Refusal::NoSuchAxis).on_axis(axis));
+    }
+    Ok(())
+}
+
+// Whether one layer more may stand on a source.
+fn has_room<S: Source>(below: &S) -> Result<(), Fault>
+    ensures { λ r. ⌜ r ≡ answer-of (depth-fit (S·Source .means (now (below .entry)) [])) ⌝ }
+{
+    if below.depth() >= 16 {
+        return Err(Fault::of(Part::Sheet, Refusal::StackFull));
+    }
+    Ok(())
+}
+
+/// Whether a sheet fits on a source: 7 for an empty sheet, then 3 at the first absent axis of its heading, then 12.
+pub fn sheet_fit<S: Source>(sheet: &Sheet, below: &S) -> Result<(), Fault>
+    ensures { λ r. ⌜ r ≡ answer-of (sheet-fit (held (now (sheet .entry))) (S·Source .means (now (below .entry)) [])) ⌝ }
+{
+    if !sheet.is_complete() {
+        return Err(Fault::of(Part::Sheet, Refusal::Incomplete));
+    }
+    let heading = sheet.heading();
+    has_axis(below, heading.row_axis())?;
+    has_axis(below, heading.column_axis())?;
+    has_axis(below, heading.target_axis())?;
+    has_room(below)
+}
+
+// Where an axis is, and 0 for one that is not there.
+fn position<S: Source>(below: &S, axis: usize) -> i64
+    ensures { λ r. ⌜ r ≡ position-seen (S·Source .means (now (below .entry)) []) axis ⌝ }
+{
+    match below.bare(axis) {
+        Ok(position) => position,
+        Err(_) => 0,
+    }
+}
+
+impl<S: Source> SheetLayer<S> {
+    /// Puts a sheet on a source.
+    pub fn put(below: S, sheet: &Sheet) -> Self
+        ensures { λ r. ⌜ sheet-put (r .sheet) (S·Source .means (r .below)) ≡ sheet-put (now (sheet .entry)) (S·Source .means below) ⌝ }
+    {
+        SheetLayer { below, sheet: *sheet }
+    }
+
+    // The sheet's value where the source stands now.
+    fn value_here(&self) -> i64
+        requires { ⌜ sheet-fit (held (now self .sheet)) (S·Source .means (now self .below) []) ≡ None ⌝ }
+        ensures value { λ r. ⌜ r ≡ sheet-value (held (now (self .entry) .sheet)) (S·Source .means (now (self .entry) .below) []) ⌝ }
+        ensures near { λ r. ⌜ Within 32767 r ⌝ }
+    {
+        let heading = self.sheet.heading();
+        let row = position(&self.below, heading.row_axis());
+        let column = position(&self.below, heading.column_axis());
+        match value(&self.sheet, row, column) {
+            Ok(here) => here,
+            Err(_) => 0,
+        }
+    }
+
+    // What a layer that fits adds at an axis.
+    fn fitted_amount(&self, axis: usize) -> i64
+        requires { ⌜ sheet-fit (held (now self .sheet)) (S·Source .means (now self .below) []) ≡ None ⌝ }
+        ensures value { λ r. ⌜ r ≡ share None (eqb axis (sheet-target (held (now (self .entry) .sheet)))) (sheet-value (held (now (self .entry) .sheet)) (S·Source .means (now (self .entry) .below) [])) ⌝ }
+        ensures near { λ r. ⌜ Within 32767 r ⌝ }
+    {
+        if axis != self.target() {
+            return 0;
+        }
+        self.value_here()
+    }
+
+    // The axis that a layer that fits corrects.
+    fn target(&self) -> usize
+        requires { ⌜ sheet-fit (held (now self .sheet)) (S·Source .means (now self .below) []) ≡ None ⌝ }
+        ensures { λ r. ⌜ r ≡ sheet-target (held (now (self .entry) .sheet)) ⌝ }
+    {
+        self.sheet.heading().target_axis()
+    }
+
+    // What the layer adds at an axis.
+    fn amount(&self, axis: usize) -> i64
+        ensures value { λ r. ⌜ r ≡ share (sheet-fit (held (now (self .entry) .sheet)) (S·Source .means (now (self .entry) .below) [])) (eqb axis (sheet-target (held (now (self .entry) .sheet)))) (sheet-value (held (now (self .entry) .sheet)) (S·Source .means (now (self .entry) .below) [])) ⌝ }
+        ensures near { λ r. ⌜ Within 32767 r ⌝ }
+    {
+        match sheet_fit(&self.sheet, &self.below) {
+            Ok(()) => self.fitted_amount(axis),
+            Err(_) => 0,
+        }
+    }
+
+    // The offset below, which leaves room for what the layer adds.
+    fn offset_below(&self, axis: usize) -> Result<i64, Fault>
+        ensures value { λ r. ⌜ r ≡ offset-answer (S·Source .means (now (self .entry) .below) []) axis ⌝ }
+        ensures near { λ r. ⌜ made r (λ z. Within 524272 z) ⌝ }
+    {
+        self.below.offset(axis)
+    }
+}
+
+fn sum(offset: i64, amount: i64) -> i64
+    requires offset { ⌜ Within 524272 offset ⌝ }
+    requires amount { ⌜ Within 32767 amount ⌝ }
+    ensures { λ r. ⌜ r ≡ offset +ℤ amount ⌝ }
+{
+    offset + amount
+}
+
+pub impl<S: Source> Source for SheetLayer<S> as SheetLayerSource {
+    ghost means = { λ l. sheet-put (l .sheet) (S·Source .means (l .below)) };
+
+    fn axes(&self) -> usize {
+        self.below.axes()
+    }
+
+    fn depth(&self) -> usize {
+        match sheet_fit(&self.sheet, &self.below) {
+            Ok(()) => self.below.depth() + 1,
+            Err(_) => self.below.depth(),
+        }
+    }
+
+    fn bare(&self, axis: usize) -> Result<i64, Fault> {
+        self.below.bare(axis)
+    }
+
+    fn offset(&self, axis: usize) -> Result<i64, Fault> {
+        let offset = self.offset_below(axis)?;
+        Ok(sum(offset, self.amount(axis)))
+    }
+
+    fn advance(&mut self, row: &[u32]) -> Result<(), Fault> {
+        self.below.advance(row)
+    }
+}

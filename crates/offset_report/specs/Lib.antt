@@ -1,0 +1,4 @@
+pub mod Inputs
+pub mod Offsets
+pub mod Readings
+pub mod Reports

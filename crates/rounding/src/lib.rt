@@ -1,0 +1,4 @@
+//! Rounding over whole numbers.
+pub mod fraction;
+pub mod laws;
+pub mod round;

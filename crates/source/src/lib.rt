@@ -1,0 +1,2 @@
+//! What every source of positions answers.
+pub mod source;

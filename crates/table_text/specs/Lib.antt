@@ -1,0 +1,2 @@
+pub mod HeadingTexts
+pub mod TableTexts

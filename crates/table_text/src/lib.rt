@@ -1,0 +1,3 @@
+//! Table texts, read.
+pub mod heading;
+pub mod table;
