@@ -32,27 +32,47 @@ impl Fault {
     pub fn of(part: Part, refusal: Refusal) -> Fault
         ensures { λ r. ⌜ r ≡ fault-of part refusal ⌝ }
     {
-        Fault { refusal, part, line: None, axis: None }
+        Fault {
+            refusal,
+            part,
+            line: None,
+            axis: None,
+        }
     }
 
     /// A fault of reading a text, at a line.
     pub fn in_text(refusal: Refusal, line: usize) -> Fault
         ensures { λ r. ⌜ r ≡ text-fault refusal line ⌝ }
     {
-        Fault { refusal, part: Part::Text, line: Some(line), axis: None }
+        Fault {
+            refusal,
+            part: Part::Text,
+            line: Some(line),
+            axis: None,
+        }
     }
 
     /// The same fault, at an axis.
     pub fn on_axis(self, axis: usize) -> Fault
         ensures { λ r. ⌜ r ≡ on-axis axis self ⌝ }
     {
-        Fault { refusal: self.refusal, part: self.part, line: self.line, axis: Some(axis) }
+        Fault {
+            refusal: self.refusal,
+            part: self.part,
+            line: self.line,
+            axis: Some(axis),
+        }
     }
 
     /// The same fault, at a line.
     pub fn at_line(self, line: usize) -> Fault
         ensures { λ r. ⌜ r ≡ at-line line self ⌝ }
     {
-        Fault { refusal: self.refusal, part: self.part, line: Some(line), axis: self.axis }
+        Fault {
+            refusal: self.refusal,
+            part: self.part,
+            line: Some(line),
+            axis: self.axis,
+        }
     }
 }

@@ -19,7 +19,7 @@ use Rattle.sheets.proofs.Held.{held-valid}
 use Rattle.source.specs.Meaning.{Seen, Rows, Meaning, Lawful, past, after, after-of}
 use Rattle.values.proofs.Bounded.{value-near}
 use Rattle.layers.specs.Laid.{laid}
-use Rattle.layers.specs.SheetLayers.{axis-fit, depth-fit, then-fit, head-fit, sheet-fit, sheet-target, sheet-value, sheet-put}
+use Rattle.layers.specs.SheetLayers.{axis-fit, depth-fit, then-fit, head-fit, sheet-fit, sheet-target, sheet-value, table-put, sheet-put}
 use Rattle.layers.proofs.Laying.{laid-lawful}
 
 pub sheet-near : (sheet : Sheet) (s : Seen) → Within 32767 (sheet-value (held sheet) s)
@@ -63,11 +63,15 @@ pub sheet-fit-same : (o : Option Table) (s u : Seen) → u .axes ≡ s .axes →
 sheet-fit-same None s u e f = refl
 sheet-fit-same (Some t) s u e f = rw (e, f) refl
 
-after-one : (o : Option Fault) (sheet : Sheet) (m : Meaning) (row : List ℕ) → Lawful m → sheet-put sheet (after-of o m row) ≡ after-of o (sheet-put sheet m) row
-after-one None sheet m row h =
-    ap (λ (f : Option Fault). laid f (sheet-target (held sheet)) (λ rs. sheet-value (held sheet) (m (row ∷ rs))) (past m row))
-      (sheet-fit-same (held sheet) (m []) (m (row ∷ [])) (h .axes (row ∷ [])) (h .depth (row ∷ [])))
-after-one (Some f) sheet m row h = refl
+after-one : (f : Option Fault) (o : Option Table) (m : Meaning) (row : List ℕ) → Lawful m → table-put o (after-of f m row) ≡ after-of f (table-put o m) row
+after-one None o m row h =
+    ap (λ (f : Option Fault). laid f (sheet-target o) (λ rs. sheet-value o (m (row ∷ rs))) (past m row))
+    (sheet-fit-same o (m []) (m (row ∷ [])) (h .axes (row ∷ [])) (h .depth (row ∷ [])))
+after-one (Some f) o m row h = refl
+
+-- a row goes through a table to the source below
+pub table-after : (o : Option Table) (m : Meaning) (row : List ℕ) → Lawful m → table-put o (after m row) ≡ after (table-put o m) row
+table-after o m row h = after-one (m [] .refusal row) o m row h
 
 pub sheet-after : (sheet : Sheet) (m : Meaning) (row : List ℕ) → Lawful m → sheet-put sheet (after m row) ≡ after (sheet-put sheet m) row
-sheet-after sheet m row h = after-one (m [] .refusal row) sheet m row h
+sheet-after sheet m row h = table-after (held sheet) m row h

@@ -7,7 +7,7 @@ ghost use Rattle.std.specs.Vec.{made};
 ghost use Rattle.std.specs.declared.option.Option.the-variants.{None};
 ghost use Rattle.rounding.specs.Bounds.{Within};
 ghost use Rattle.sheets.specs.Tables.{held};
-ghost use Rattle.source.specs.Meaning.{answer-of, offset-answer};
+ghost use Rattle.source.specs.Meaning.{answer-of, offset-answer, row-answer, after};
 ghost use Rattle.layers.specs.Laid.{share};
 ghost use Rattle.layers.specs.SheetLayers.{axis-fit, depth-fit, sheet-fit, sheet-target, sheet-value, sheet-put, position-seen};
 use faults::fault::Fault;
@@ -73,7 +73,10 @@ impl<S: Source> SheetLayer<S> {
     pub fn put(below: S, sheet: &Sheet) -> Self
         ensures { λ r. ⌜ sheet-put (r .sheet) (S·Source .means (r .below)) ≡ sheet-put (now (sheet .entry)) (S·Source .means below) ⌝ }
     {
-        SheetLayer { below, sheet: *sheet }
+        SheetLayer {
+            below,
+            sheet: *sheet,
+        }
     }
 
     // The sheet's value where the source stands now.
@@ -122,6 +125,14 @@ impl<S: Source> SheetLayer<S> {
         }
     }
 
+    // Offers a row to the source below.
+    fn pass_row(&mut self, row: &[u32]) -> Result<(), Fault>
+        ensures answer { λ r. ⌜ r ≡ row-answer (S·Source .means (now (self .entry) .below) []) (now (row .entry)) ⌝ }
+        ensures next { λ _. ⌜ sheet-put (now (self .exit) .sheet) (S·Source .means (now (self .exit) .below)) ≡ after (sheet-put (now (self .entry) .sheet) (S·Source .means (now (self .entry) .below))) (now (row .entry)) ⌝ }
+    {
+        self.below.advance(row)
+    }
+
     // The offset below, which leaves room for what the layer adds.
     fn offset_below(&self, axis: usize) -> Result<i64, Fault>
         ensures value { λ r. ⌜ r ≡ offset-answer (S·Source .means (now (self .entry) .below) []) axis ⌝ }
@@ -163,6 +174,6 @@ pub impl<S: Source> Source for SheetLayer<S> as SheetLayerSource {
     }
 
     fn advance(&mut self, row: &[u32]) -> Result<(), Fault> {
-        self.below.advance(row)
+        self.pass_row(row)
     }
 }

@@ -66,12 +66,18 @@ pub fn read_number(text: &[u8]) -> Option<Number>
             return None;
         }
         let value = -(run.size as i64);
-        return Some(Number { value, width: run.end });
+        return Some(Number {
+            value,
+            width: run.end,
+        });
     }
     let Some(run) = unsigned(text, 0) else {
         return None;
     };
-    Some(Number { value: run.size as i64, width: run.end })
+    Some(Number {
+        value: run.size as i64,
+        width: run.end,
+    })
 }
 
 /// A line, without its end, that is a number and nothing else.

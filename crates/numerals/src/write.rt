@@ -12,7 +12,10 @@ impl Numeral {
     fn empty() -> Numeral
         ensures { λ r. ⌜ written r ≡ [] ⌝ }
     {
-        Numeral { bytes: [0; 21], filled: 0 }
+        Numeral {
+            bytes: [0; 21],
+            filled: 0,
+        }
     }
 
     /// One byte more; what no longer fits is let go, and nothing of a 64-bit number is.

@@ -1,3 +1,4 @@
 pub mod Following
 pub mod Lengths
+pub mod Reading
 pub mod Starting

@@ -9,11 +9,12 @@ ghost use Rattle.std.specs.Vec.{made};
 ghost use Rattle.std.specs.declared.option.Option.the-variants.{Some};
 ghost use Rattle.lines.specs.Lines.{cut};
 ghost use Rattle.sheets.specs.Tables.{begun, held};
+ghost use Rattle.table_text.specs.TableTexts.{reading};
 ghost use Rattle.offset_report.specs.Inputs.{reading-of};
-ghost use Rattle.offset_report.specs.Offsets.{bank-meaning, started-by, put-on, start as started, output};
+ghost use Rattle.offset_report.specs.Offsets.{bank-meaning, started-by, put-on, start as started, after-table, output};
 ghost use Rattle.offset_report.specs.Reports.{report-lines};
+use crate::input::cut_input;
 use crate::input::read_reading;
-use crate::input::table_length;
 use crate::readings::follow;
 use crate::readings::put_unended;
 use crate::readings::see;
@@ -33,9 +34,6 @@ use table_text::table::read_text;
 /// The largest move that a reading may make, in counts.
 const JUMP_LIMIT: i64 = 8_388_607;
 
-/// How much of an input is read.
-const INPUT_LIMIT: usize = 65_536;
-
 /// The bank that a reading line, without its end, sets up.
 fn start_bank(line: usize, text: &[u8]) -> Result<Bank, Fault>
     ensures { λ r. ⌜ mapped bank-meaning (λ f. f) r ≡ started-by line (reading-of (now (text .entry))) ⌝ }
@@ -52,7 +50,13 @@ fn start_bank(line: usize, text: &[u8]) -> Result<Bank, Fault>
 }
 
 /// Puts the table on the bank, says where the axis stands, and goes on with the readings behind.
-fn put_on(out: &mut Vec<u8>, sheet: &Sheet, bank: Bank, line: usize, rest: &[u8]) -> Result<(), AllocError>
+fn put_on(
+    out: &mut Vec<u8>,
+    sheet: &Sheet,
+    bank: Bank,
+    line: usize,
+    rest: &[u8],
+) -> Result<(), AllocError>
     requires complete { ⌜ held (now sheet) ≡ Some (begun (now sheet)) ⌝ }
     requires few { ⌜ line + length (now rest) < 100000 ⌝ }
     ensures { λ r. ⌜ made r (λ _. vec-items (now (out .exit)) ≡ vec-items (now (out .entry)) ++ report-lines (put-on (begun (now (sheet .entry))) (bank-meaning bank) line (cut (now (rest .entry)) .lines) (cut (now (rest .entry)) .left))) ⌝ }
@@ -86,17 +90,27 @@ fn start(out: &mut Vec<u8>, sheet: &Sheet, first: usize, text: &[u8]) -> Result<
     put_unended(out, line, rest)
 }
 
+/// Reads the table, and then its readings.
+fn report(out: &mut Vec<u8>, table: &[u8], readings: &[u8]) -> Result<(), AllocError>
+    requires { ⌜ length (now readings) ≤ 65536 ⌝ }
+    ensures { λ r. ⌜ made r (λ _. vec-items (now (out .exit)) ≡ vec-items (now (out .entry)) ++ report-lines (after-table (reading (now (table .entry))) (now (readings .entry)))) ⌝ }
+{
+    let mut sheet = Sheet::new();
+    if let Err(fault) = read_text(&mut sheet, table) {
+        Report::Refused(fault).put(out)?;
+        return Ok(());
+    }
+    let first = sheet.entries().len() + 3;
+    start(out, &sheet, first, readings)?;
+    Ok(())
+}
+
 /// What the program writes for an input, of which it reads no more than 65,536 bytes.
 pub fn offsets(heap: Global, input: &[u8]) -> Result<Vec<u8>, AllocError>
     ensures { λ r. ⌜ made r (λ out. vec-items out ≡ output (now (input .entry))) ⌝ }
 {
-    let input = &input[0..input.len().min(INPUT_LIMIT)];
+    let (table, readings) = cut_input(input);
     let mut out = Vec::new(heap);
-    let end = table_length(input);
-    let mut sheet = Sheet::new();
-    match read_text(&mut sheet, &input[0..end]) {
-        Ok(()) => start(&mut out, &sheet, sheet.entries().len() + 3, &input[end..])?,
-        Err(fault) => Report::Refused(fault).put(&mut out)?,
-    }
+    report(&mut out, table, readings)?;
     Ok(out)
 }

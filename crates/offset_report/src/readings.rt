@@ -64,7 +64,12 @@ pub(crate) fn put_unended(out: &mut Vec<u8>, line: usize, left: &[u8]) -> Result
 }
 
 /// Offers the readings of a text, from a line on, and writes what comes of each.
-pub(crate) fn follow<S: Source>(out: &mut Vec<u8>, source: &mut S, first: usize, text: &[u8]) -> Result<(), AllocError>
+pub(crate) fn follow<S: Source>(
+    out: &mut Vec<u8>,
+    source: &mut S,
+    first: usize,
+    text: &[u8],
+) -> Result<(), AllocError>
     requires { ⌜ first + length (now text) ≤ 100000 ⌝ }
     ensures { λ r. ⌜ made r (λ _. vec-items (now (out .exit)) ≡ vec-items (now (out .entry)) ++ report-lines (followed (S·Source .means (now (source .entry))) first (cut (now (text .entry)) .lines) (cut (now (text .entry)) .left))) ⌝ }
 {

@@ -4,9 +4,10 @@ use std::io;
 use std::io::Read;
 use std::io::Write;
 
-/// One byte more than is read, so that nothing beyond the limit is waited for.
+/// How much of the standard input is read.
 const INPUT_LIMIT: usize = 65_536;
 
+/// Reads until the input ends or the limit is reached.
 fn read_input(rt: &LibcRuntime) -> io::Result<Vec<u8>> {
     let mut input = vec![in rt.alloc(); 0; INPUT_LIMIT]?;
     let mut filled = 0;

@@ -33,9 +33,10 @@ pub within : Rounds-within-bounds
 within n (pos k) a b h i j =
     let p : 0 < k = omega (arith, ints) in
     let low = rounded-floor n k p .low in
-    let high = rounded-floor n k p .high in
-    ( by-ltZ (rounded n (pos k)) a (λ l. absurd (omega (arith, ints, scale-lt k (rounded n (pos k)) a l))) (λ l. l)
-    , by-ltZ b (rounded n (pos k)) (λ l. absurd (omega (arith, ints, scale-lt k b (rounded n (pos k)) l))) (λ l. l) )
+    let high = rounded-floor n k p .high in (
+      by-ltZ (rounded n (pos k)) a (λ l. absurd (omega (arith, ints, scale-lt k (rounded n (pos k)) a l))) (λ l. l),
+      by-ltZ b (rounded n (pos k)) (λ l. absurd (omega (arith, ints, scale-lt k b (rounded n (pos k)) l))) (λ l. l),
+    )
 within n (negsuc k) a b h i j = absurd (omega (arith, ints))
 
 -- the floor of a larger number is not lower

@@ -27,7 +27,10 @@ impl Fraction {
         if denominator < 1 || denominator > 1 << 44 {
             return None;
         }
-        Some(Fraction { numerator, denominator })
+        Some(Fraction {
+            numerator,
+            denominator,
+        })
     }
 
     /// Twice the numerator with the denominator added: half a denominator more, doubled.

@@ -13,7 +13,7 @@ loop-reading-again g c =
     let out = vec-items (c .loop-reading .out) in (
       omega (arith, e .1, c .loop-reading .inv .0),
       follow-line (g .S·Source .means (c .loop-reading .source)) (g .S·Source .means (c .take-line .last .source)) (c .loop-reading .line) (c .loop-reading .rest .now)
-      (c .in-Some .reading .now) (c .in-Some .after .now) (vec-items (c .loop-reading .out)) (vec-items (c .put .last .out)) (e .0) (c .take-line .ensures .next)
-      (c .in-Continue-put .ensures tt ∙ ap (λ (r : Report). vec-items (c .loop-reading .out) ++ report-line r) (c .take-line .ensures .said))
-      ∙ c .loop-reading .inv .1,
+          (c .in-Some .reading .now) (c .in-Some .after .now) (vec-items (c .loop-reading .out)) (vec-items (c .put .last .out)) (e .0) (c .take-line .ensures .next)
+          (c .in-Continue-put .ensures tt ∙ ap (λ (r : Report). vec-items (c .loop-reading .out) ++ report-line r) (c .take-line .ensures .said))
+          ∙ c .loop-reading .inv .1,
     )

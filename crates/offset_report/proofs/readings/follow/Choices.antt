@@ -11,7 +11,7 @@ abbrev pub Inv-loop-reading : given.InvT-loop-reading
 Inv-loop-reading g l =
     (l .line + length (l .rest) ≤ 100000)
     × (vec-items (l .out) ++ rest-of (g .S·Source .means (l .source)) (l .line) (l .rest)
-      ≡ vec-items (l .entry .out) ++ rest-of (g .S·Source .means (l .entry .source)) (l .entry .line) (l .entry .rest))
+    ≡ vec-items (l .entry .out) ++ rest-of (g .S·Source .means (l .entry .source)) (l .entry .line) (l .entry .rest))
 
 abbrev pub μ-loop-reading : given.MeasureT-loop-reading
 μ-loop-reading g l = length (l .rest)

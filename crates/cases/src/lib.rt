@@ -1,0 +1,6 @@
+//! Worked examples, run: each refusal with its line, axis and part, and tables of known values.
+
+#[cfg(test)]
+mod banks;
+#[cfg(test)]
+mod inputs;
