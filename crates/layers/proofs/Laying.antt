@@ -17,6 +17,7 @@ use Rattle.std.specs.Vec.{made}
 use Rattle.rounding.specs.Bounds.{Within}
 use Rattle.faults.specs.declared.fault.Fault.{Fault}
 use Rattle.source.specs.Meaning.{Seen, Rows, Meaning, Lawful, no-axis, bare-answer, offset-answer, answer-of, past, after, after-of}
+use Rattle.layers.specs.Below.{then-fit}
 use Rattle.layers.specs.Laid.{count, share, laid}
 
 share-near : (o : Option Fault) (b : Bool) (x : ℤ) → Within 32767 x → Within 32767 (share o b x)
@@ -54,6 +55,15 @@ pub unfit-of : (o : Option Fault) (f : Fault) → _≡_ {A = Result (Unit {0}) F
 unfit-of None f e = let z : _≡_ {A = ℕ} 0 1 = cc in absurd (omega arith)
 unfit-of (Some g) f e = cc
 
+-- what a check that refuses nothing says
+pub none-of : (a : Bool) (f : Fault) → cond a None (Some f) ≡ None → a ≡ true
+none-of true f e = refl
+none-of false f e = let z : _≡_ {A = ℕ} 0 1 = cc in absurd (omega arith)
+
+pub both-none : (o p : Option Fault) → then-fit o p ≡ None → (o ≡ None) × (p ≡ None)
+both-none None p e = (refl, e)
+both-none (Some f) p e = let z : _≡_ {A = ℕ} 0 1 = cc in absurd (omega arith)
+
 -- what an answer `Ok` says
 pub ok-of : (b : Bool) (a : ℕ) (x z : ℤ) → _≡_ {A = Result ℤ Fault} (Ok z) (cond b (Ok x) (Err (no-axis a))) → (b ≡ true) × (z ≡ x)
 ok-of true a x z e = (refl, cc)
@@ -76,3 +86,9 @@ offset-room m a (Ok z) h e =
     let w : Within (m [] .depth * 32767) z = rw (p .1) (h .offset [] a) in
     let d = h .shallow in
     (omega (arith, ints, w .0), omega (arith, ints, w .1))
+
+-- and what it answers for a bare position stays near
+pub bare-near : (m : Meaning) (a : ℕ) (z : ℤ) → Lawful m → _≡_ {A = Result ℤ Fault} (Ok z) (bare-answer (m []) a) → (z ≡ cond (ltb a (m [] .axes)) (m [] .bare a) (pos 0)) × Within 1099511627776 z
+bare-near m a z h e =
+    let p = ok-of (ltb a (m [] .axes)) a (m [] .bare a) z e in
+    (p .1 ∙ rw (p .0), rw (p .1) (h .bare [] a))

@@ -12,6 +12,7 @@ use Rattle.std.specs.declared.option.Option.{Option}
 use Rattle.std.specs.declared.option.Option.the-variants.{Some, None}
 use Rattle.rounding.specs.Bounds.{Within}
 use Rattle.faults.specs.declared.fault.Fault.{Fault}
+use Rattle.faults.specs.declared.fault.Part.the-variants.{Sheet as Sheets}
 use Rattle.headings.specs.Heads.{Head, row-axis, column-axis, target-axis}
 use Rattle.sheets.specs.declared.sheet.Sheet.{Sheet}
 use Rattle.sheets.specs.Tables.{Table, held}
@@ -19,8 +20,9 @@ use Rattle.sheets.proofs.Held.{held-valid}
 use Rattle.source.specs.Meaning.{Seen, Rows, Meaning, Lawful, past, after, after-of}
 use Rattle.values.proofs.Bounded.{value-near}
 use Rattle.layers.specs.Laid.{laid}
-use Rattle.layers.specs.SheetLayers.{axis-fit, depth-fit, then-fit, head-fit, sheet-fit, sheet-target, sheet-value, table-put, sheet-put}
-use Rattle.layers.proofs.Laying.{laid-lawful}
+use Rattle.layers.specs.Below.{axis-fit, depth-fit, then-fit}
+use Rattle.layers.specs.SheetLayers.{head-fit, sheet-fit, sheet-target, sheet-value, table-put, sheet-put}
+use Rattle.layers.proofs.Laying.{laid-lawful, none-of, both-none}
 
 pub sheet-near : (sheet : Sheet) (s : Seen) → Within 32767 (sheet-value (held sheet) s)
 sheet-near sheet s =
@@ -28,14 +30,6 @@ sheet-near sheet s =
       | None ↦ (λ e. (omega (arith, ints), omega (arith, ints)))
       | Some t ↦ (λ e. value-near t (s .bare (row-axis (t .head))) (s .bare (column-axis (t .head))) (held-valid sheet t e))
     ] refl
-
-pub none-of : (a : Bool) (f : Fault) → cond a None (Some f) ≡ None → a ≡ true
-none-of true f e = refl
-none-of false f e = let z : _≡_ {A = ℕ} 0 1 = cc in absurd (omega arith)
-
-pub both-none : (o p : Option Fault) → then-fit o p ≡ None → (o ≡ None) × (p ≡ None)
-both-none None p e = (refl, e)
-both-none (Some f) p e = let z : _≡_ {A = ℕ} 0 1 = cc in absurd (omega arith)
 
 -- a heading that fits: all its axes are there, and there is room
 pub record Fits (h : Head) (s : Seen) : Type 0 where
@@ -46,9 +40,9 @@ pub record Fits (h : Head) (s : Seen) : Type 0 where
 
 pub fits : (h : Head) (s : Seen) → head-fit h s ≡ None → Fits h s
 fits h s e =
-    let a = both-none (axis-fit (row-axis h) s) (then-fit (axis-fit (column-axis h) s) (then-fit (axis-fit (target-axis h) s) (depth-fit s))) e in
-    let b = both-none (axis-fit (column-axis h) s) (then-fit (axis-fit (target-axis h) s) (depth-fit s)) (a .1) in
-    let c = both-none (axis-fit (target-axis h) s) (depth-fit s) (b .1) in
+    let a = both-none (axis-fit Sheets (row-axis h) s) (then-fit (axis-fit Sheets (column-axis h) s) (then-fit (axis-fit Sheets (target-axis h) s) (depth-fit Sheets s))) e in
+    let b = both-none (axis-fit Sheets (column-axis h) s) (then-fit (axis-fit Sheets (target-axis h) s) (depth-fit Sheets s)) (a .1) in
+    let c = both-none (axis-fit Sheets (target-axis h) s) (depth-fit Sheets s) (b .1) in
     record { row = none-of _ _ (a .0); column = none-of _ _ (b .0); target = none-of _ _ (c .0); room = ltb-true (s .depth) 16 (none-of _ _ (c .1)) }
 
 pub sheet-room : (o : Option Table) (s : Seen) → sheet-fit o s ≡ None → s .depth < 16

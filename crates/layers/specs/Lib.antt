@@ -1,2 +1,3 @@
+pub mod Below
 pub mod Laid
 pub mod SheetLayers

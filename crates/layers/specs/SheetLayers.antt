@@ -1,36 +1,23 @@
 -- A sheet layer: the value of the sheet that it copied, at the bare positions of the axes that the sheet is read by.
-use mathlib.Core.Bool.{cond}
 use mathlib.Core.List.{[]}
 use Prim.Native.Nat.{ℕ}
-use lib.Dec.{ltb}
 use lib.IntN.{ℤ, pos}
 use Rattle.std.specs.declared.option.Option.{Option}
 use Rattle.std.specs.declared.option.Option.the-variants.{Some, None}
-use Rattle.faults.specs.Faults.{on-axis}
 use Rattle.faults.specs.declared.fault.Fault.{Fault}
-use Rattle.faults.specs.declared.fault.Refusal.the-variants.{NoSuchAxis, Incomplete, StackFull}
+use Rattle.faults.specs.declared.fault.Part.the-variants.{Sheet as Sheets}
+use Rattle.faults.specs.declared.fault.Refusal.the-variants.{Incomplete}
 use Rattle.headings.specs.Heads.{Head, sheet-fault, row-axis, column-axis, target-axis}
 use Rattle.sheets.specs.declared.sheet.Sheet.{Sheet}
 use Rattle.sheets.specs.Tables.{Table, held}
 use Rattle.source.specs.Meaning.{Seen, Meaning}
 use Rattle.values.specs.Values.{value}
+use Rattle.layers.specs.Below.{axis-fit, depth-fit, then-fit}
 use Rattle.layers.specs.Laid.{laid}
-
--- 3 for an absent axis, and 12 for a stack that is full
-abbrev pub axis-fit : ℕ → Seen → Option Fault
-axis-fit a s = cond (ltb a (s .axes)) None (Some (on-axis a (sheet-fault NoSuchAxis)))
-
-abbrev pub depth-fit : Seen → Option Fault
-depth-fit s = cond (ltb (s .depth) 16) None (Some (sheet-fault StackFull))
-
--- the first refusal of two checks
-abbrev pub then-fit : Option Fault → Option Fault → Option Fault
-then-fit None o = o
-then-fit (Some f) o = Some f
 
 -- the axes in the order of the heading, then the depth
 abbrev pub head-fit : Head → Seen → Option Fault
-head-fit h s = then-fit (axis-fit (row-axis h) s) (then-fit (axis-fit (column-axis h) s) (then-fit (axis-fit (target-axis h) s) (depth-fit s)))
+head-fit h s = then-fit (axis-fit Sheets (row-axis h) s) (then-fit (axis-fit Sheets (column-axis h) s) (then-fit (axis-fit Sheets (target-axis h) s) (depth-fit Sheets s)))
 
 -- 7 for an empty sheet comes first
 abbrev pub sheet-fit : Option Table → Seen → Option Fault
@@ -55,7 +42,3 @@ table-put o m = laid (sheet-fit o (m [])) (sheet-target o) (λ rs. sheet-value o
 
 abbrev pub sheet-put : Sheet → Meaning → Meaning
 sheet-put sheet m = table-put (held sheet) m
-
--- where an axis is, and 0 for one that is not there
-abbrev pub position-seen : Seen → ℕ → ℤ
-position-seen s a = cond (ltb a (s .axes)) (s .bare a) (pos 0)

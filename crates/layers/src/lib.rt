@@ -1,2 +1,3 @@
 //! Layers that correct a source of positions.
+pub mod below;
 pub mod sheet_layer;

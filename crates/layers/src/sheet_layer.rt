@@ -2,14 +2,17 @@
 ghost use mathlib.Core.Path.{_≡_};
 ghost use mathlib.Core.List.{[]};
 ghost use lib.Dec.{eqb};
-ghost use lib.IntN.{_+ℤ_};
-ghost use Rattle.std.specs.Vec.{made};
 ghost use Rattle.std.specs.declared.option.Option.the-variants.{None};
 ghost use Rattle.rounding.specs.Bounds.{Within};
 ghost use Rattle.sheets.specs.Tables.{held};
-ghost use Rattle.source.specs.Meaning.{answer-of, offset-answer, row-answer, after};
+ghost use Rattle.source.specs.Meaning.{answer-of, row-answer, after};
 ghost use Rattle.layers.specs.Laid.{share};
-ghost use Rattle.layers.specs.SheetLayers.{axis-fit, depth-fit, sheet-fit, sheet-target, sheet-value, sheet-put, position-seen};
+ghost use Rattle.layers.specs.SheetLayers.{sheet-fit, sheet-target, sheet-value, sheet-put};
+use crate::below::has_axis;
+use crate::below::has_room;
+use crate::below::offset_below;
+use crate::below::position;
+use crate::below::sum;
 use faults::fault::Fault;
 use faults::fault::Part;
 use faults::fault::Refusal;
@@ -24,26 +27,6 @@ pub struct SheetLayer<S: Source> {
     sheet: Sheet,
 }
 
-// Whether a source has an axis that a sheet names.
-fn has_axis<S: Source>(below: &S, axis: usize) -> Result<(), Fault>
-    ensures { λ r. ⌜ r ≡ answer-of (axis-fit axis (S·Source .means (now (below .entry)) [])) ⌝ }
-{
-    if axis >= below.axes() {
-        return Err(Fault::of(Part::Sheet, Refusal::NoSuchAxis).on_axis(axis));
-    }
-    Ok(())
-}
-
-// Whether one layer more may stand on a source.
-fn has_room<S: Source>(below: &S) -> Result<(), Fault>
-    ensures { λ r. ⌜ r ≡ answer-of (depth-fit (S·Source .means (now (below .entry)) [])) ⌝ }
-{
-    if below.depth() >= 16 {
-        return Err(Fault::of(Part::Sheet, Refusal::StackFull));
-    }
-    Ok(())
-}
-
 /// Whether a sheet fits on a source: 7 for an empty sheet, then 3 at the first absent axis of its heading, then 12.
 pub fn sheet_fit<S: Source>(sheet: &Sheet, below: &S) -> Result<(), Fault>
     ensures { λ r. ⌜ r ≡ answer-of (sheet-fit (held (now (sheet .entry))) (S·Source .means (now (below .entry)) [])) ⌝ }
@@ -52,20 +35,10 @@ pub fn sheet_fit<S: Source>(sheet: &Sheet, below: &S) -> Result<(), Fault>
         return Err(Fault::of(Part::Sheet, Refusal::Incomplete));
     }
     let heading = sheet.heading();
-    has_axis(below, heading.row_axis())?;
-    has_axis(below, heading.column_axis())?;
-    has_axis(below, heading.target_axis())?;
-    has_room(below)
-}
-
-// Where an axis is, and 0 for one that is not there.
-fn position<S: Source>(below: &S, axis: usize) -> i64
-    ensures { λ r. ⌜ r ≡ position-seen (S·Source .means (now (below .entry)) []) axis ⌝ }
-{
-    match below.bare(axis) {
-        Ok(position) => position,
-        Err(_) => 0,
-    }
+    has_axis(below, Part::Sheet, heading.row_axis())?;
+    has_axis(below, Part::Sheet, heading.column_axis())?;
+    has_axis(below, Part::Sheet, heading.target_axis())?;
+    has_room(below, Part::Sheet)
 }
 
 impl<S: Source> SheetLayer<S> {
@@ -132,22 +105,6 @@ impl<S: Source> SheetLayer<S> {
     {
         self.below.advance(row)
     }
-
-    // The offset below, which leaves room for what the layer adds.
-    fn offset_below(&self, axis: usize) -> Result<i64, Fault>
-        ensures value { λ r. ⌜ r ≡ offset-answer (S·Source .means (now (self .entry) .below) []) axis ⌝ }
-        ensures near { λ r. ⌜ made r (λ z. Within 524272 z) ⌝ }
-    {
-        self.below.offset(axis)
-    }
-}
-
-fn sum(offset: i64, amount: i64) -> i64
-    requires offset { ⌜ Within 524272 offset ⌝ }
-    requires amount { ⌜ Within 32767 amount ⌝ }
-    ensures { λ r. ⌜ r ≡ offset +ℤ amount ⌝ }
-{
-    offset + amount
 }
 
 pub impl<S: Source> Source for SheetLayer<S> as SheetLayerSource {
@@ -169,7 +126,7 @@ pub impl<S: Source> Source for SheetLayer<S> as SheetLayerSource {
     }
 
     fn offset(&self, axis: usize) -> Result<i64, Fault> {
-        let offset = self.offset_below(axis)?;
+        let offset = offset_below(&self.below, axis)?;
         Ok(sum(offset, self.amount(axis)))
     }
 

@@ -6,7 +6,7 @@ use native.Mathlib.Omega.{arith}
 use Prim.Native.Nat.{ℕ, zero, suc, _+_, _≤_}
 use lib.Dec.{eqb, ltb, lit≤}
 use lib.IntN.{ℤ, pos, _+ℤ_}
-use lib.ListN.{length}
+use lib.ListN.{length, take, drop}
 use Rattle.std.specs.declared.option.Option.{Option}
 use Rattle.std.specs.declared.option.Option.the-variants.{Some, None}
 use Rattle.std.specs.declared.result.Result.{Result}
@@ -32,8 +32,10 @@ use Rattle.source.specs.Meaning.{Seen, Rows, Meaning, Lawful, no-axis, past, af
 use Rattle.values.specs.Values.{value}
 use Rattle.values.proofs.Halves.{value-half}
 use Rattle.values.proofs.Points.{value-on-points}
-use Rattle.offset_report.specs.Inputs.{reading-of}
-use Rattle.offset_report.specs.Offsets.{started-by, put-on, start}
+use Rattle.lines.specs.Lines.{cut}
+use Rattle.text_law.proofs.WholeTexts.{law-only}
+use Rattle.offset_report.specs.Inputs.{table-length, reading-of}
+use Rattle.offset_report.specs.Offsets.{started-by, start, after-table}
 use Rattle.offset_report.specs.Readings.{seen-at, offered-at, line-at, after-line, unended, follow}
 use Rattle.offset_report.specs.declared.report.Report.{Report}
 use Rattle.offset_report.specs.declared.report.Report.the-variants.{Position, Refused}
@@ -157,6 +159,13 @@ told-started t k ls left (Ok x) v rest =
       | Some f ↦ (tt, rest)
     ]
 
+-- every line behind a table
+told-lines : (t : Table) (k : ℕ) (ls : List (List ℕ)) (left : List ℕ) → Valid t → All (Told t) (start t k ls left)
+told-lines t k [] left v = told-end t k left
+told-lines t k (l ∷ ls) left v = told-started t k ls left (reading-of l) v (told-lines t (k + 1) ls left v)
+
 pub offsets-correct : Offsets-correct
-offsets-correct t k [] left v = told-end t k left
-offsets-correct t k (l ∷ ls) left v = told-started t k ls left (reading-of l) v (offsets-correct t (k + 1) ls left v)
+offsets-correct s t e =
+    let rest = drop (table-length s) s in
+    let v = law-only (take (table-length s) s) t e .0 in
+    subst (λ (r : Result Table Fault). All (Told t) (after-table r (drop (table-length s) s))) (sym e) (told-lines t (length (t .entries) + 3) (cut rest .lines) (cut rest .left) v)

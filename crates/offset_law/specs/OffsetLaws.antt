@@ -3,17 +3,20 @@ use mathlib.Core.List.{List, [], _∷_, map}
 use mathlib.Core.Path.{_≡_}
 use Prim.Native.Nat.{ℕ, zero, suc, _+_}
 use lib.IntN.{ℤ, pos, _-ℤ_, _*ℤ_}
-use lib.ListN.{length}
+use lib.ListN.{length, take}
 use Rattle.std.specs.declared.option.Option.{Option}
 use Rattle.std.specs.declared.option.Option.the-variants.{Some}
+use Rattle.std.specs.declared.result.Result.the-variants.{Ok}
 use Rattle.std.specs.shelf.Lists.{All}
-use Rattle.offset_report.specs.Offsets.{start}
+use Rattle.offset_report.specs.Inputs.{table-length}
+use Rattle.offset_report.specs.Offsets.{reports}
 use Rattle.offset_report.specs.Readings.{follow}
 use Rattle.offset_report.specs.declared.report.Report.{Report}
 use Rattle.offset_report.specs.declared.report.Report.the-variants.{Position, Refused}
 use Rattle.rounding.specs.Bounds.{Within}
-use Rattle.sheets.specs.Tables.{Table, Valid}
+use Rattle.sheets.specs.Tables.{Table}
 use Rattle.source.specs.Meaning.{Meaning}
+use Rattle.table_text.specs.TableTexts.{reading}
 use Rattle.values.specs.Values.{numerator, denominator, On-point, point}
 
 -- what a report says of the table t: the position is within its limit, the offset is off the exact value there by at most one half, and on a point it is the entry
@@ -26,9 +29,9 @@ abbrev pub Told : Table → Report → Type 0
 Told t (Position k p o) = Corrects t p o
 Told t (Refused f) = Unit {0}
 
--- of every line behind a table
+-- every report of an input whose table text is read as t
 abbrev pub Offsets-correct : Type 0
-Offsets-correct = (t : Table) (k : ℕ) (ls : List (List ℕ)) (left : List ℕ) → Valid t → All (Told t) (start t k ls left)
+Offsets-correct = (s : List ℕ) (t : Table) → reading (take (table-length s) s) ≡ Ok t → All (Told t) (reports s)
 
 -- the line that a report names
 abbrev pub line-of : Report → Option ℕ

@@ -1,56 +1,39 @@
-use borrow.Author.Needs.{needs}
-use mathlib.Core.Bool.{Bool, true, false, cond, _&&_}
+use mathlib.Core.Bool.{true, false, cond}
 use mathlib.Core.List.{List, [], _∷_, _++_}
-use mathlib.Core.Path.{_≡_, refl, sym, ap, subst, _∙_}
+use mathlib.Core.Path.{_≡_, refl, _∙_}
 use native.Mathlib.Omega.{arith}
-use native.Mathlib.Nat.{mul-le-mul}
-use Prim.Native.Nat.{ℕ, _+_, _-_, _*_, _<_, _≤_, min}
-use lib.Dec.{eqb, leb}
-use lib.IntN.{ℤ, pos, negsuc, natAbs}
-use lib.ListN.{length, take, set, getD, drop}
-use lib.Signed.{leZ, _≤ℤ_}
+use Prim.Native.Nat.{ℕ, _+_, _-_, _<_, _≤_}
+use lib.Dec.{leb}
+use lib.IntN.{ℤ, natAbs}
+use lib.ListN.{length, take, set}
 use mir.Syntax.{w16, w64}
 use mir.Val.{SFits, ofZ, toZ}
-use Rattle.std.proofs.shelf.Signed.{toZ-ofZ, ints}
-use Rattle.std.proofs.shelf.Lists.{length-take, take-more-set, at-drop-more}
-use Rattle.std.proofs.shelf.Ways.{tells}
-use Rattle.std.proofs.shelf.Tests.{eq-eqb, ne-eqb, le-leb, lt-leb, and-parts, and-from}
+use Rattle.std.proofs.shelf.Signed.{ints}
+use Rattle.std.proofs.shelf.Lists.{length-take, take-more-set}
+use Rattle.std.proofs.shelf.Tests.{le-leb, leb-true, leb-false, and-parts, and-from}
 use Rattle.std.specs.declared.option.Option.{Option}
 use Rattle.std.specs.declared.option.Option.the-variants.{Some, None}
 use Rattle.faults.specs.declared.fault.Refusal.{Refusal}
-use Rattle.faults.specs.declared.fault.Refusal.the-variants.{OutOfRange, TooManyEntries, Incomplete}
-use Rattle.headings.specs.declared.heading.Heading.{Heading}
-use Rattle.headings.specs.declared.heading.Heading.the-variants.{Screw, Plane}
+use Rattle.faults.specs.declared.fault.Refusal.the-variants.{OutOfRange, TooManyEntries}
 use Rattle.sheets.specs.declared.sheet.Sheet.{Sheet}
-use Rattle.headings.specs.Heads.{Head, screw, plane, head-of, capacity, within, in-range}
-use Rattle.headings.specs.Heads.{sheet-fault}
+use Rattle.headings.specs.Heads.{Head, head-of, capacity, in-range}
 use Rattle.faults.specs.declared.fault.Fault.{Fault}
-use Rattle.std.specs.declared.result.Result.{Result}
-use Rattle.std.specs.declared.result.Result.the-variants.{Ok, Err}
-use Rattle.std.specs.Results.{mapped}
-use Rattle.sheets.specs.Tables.{Table, begun, held, push, close-refusal, entry-refusal}
+use Rattle.sheets.specs.Tables.{Table, begun, entry-refusal}
 
 -- as many entries as are counted
 pub counts : (s : Sheet) → length (take (s .filled) (s .values)) ≡ s .filled
 counts s = length-take (s .filled) (s .values) ∙ omega (arith, s .sized, s .few)
 
-pub closes : (s : Sheet) → s .filled ≡ capacity (head-of (s .heading)) → close-refusal (begun s) ≡ None
-closes s e = ap (λ b. cond b None (Some Incomplete)) (eq-eqb (length (take (s .filled) (s .values))) (capacity (head-of (s .heading))) (counts s ∙ e))
-
-pub lacks : (s : Sheet) → (s .filled ≡ capacity (head-of (s .heading)) → ⊥) → close-refusal (begun s) ≡ Some Incomplete
-lacks s e = ap (λ b. cond b None (Some Incomplete)) (ne-eqb (length (take (s .filled) (s .values))) (capacity (head-of (s .heading))) (λ x. e (sym (counts s) ∙ x)))
-
-pub surplus : (s : Sheet) (v : ℤ) → capacity (head-of (s .heading)) ≤ s .filled → entry-refusal (begun s) v ≡ Some TooManyEntries
-surplus s v h =
-    ap (λ b. cond b (Some TooManyEntries) (cond (leb (natAbs v) 32767) None (Some OutOfRange))) (le-leb (capacity (head-of (s .heading))) (length (take (s .filled) (s .values))) (omega (arith, counts s)))
-
-pub wanted : (s : Sheet) (v : ℤ) (b : Bool) → s .filled < capacity (head-of (s .heading)) → leb (natAbs v) 32767 ≡ b → entry-refusal (begun s) v ≡ cond b None (Some OutOfRange)
-wanted s v b h e =
-    ap (λ b. cond b (Some TooManyEntries) (cond (leb (natAbs v) 32767) None (Some OutOfRange))) (lt-leb (capacity (head-of (s .heading))) (length (take (s .filled) (s .values))) (omega (arith, counts s)))
-    ∙ ap (λ b. cond b None (Some OutOfRange)) e
-
-pub small : (v : ℤ) → (negsuc 32766 ≤ℤ v) → (v ≤ℤ pos 32767) → natAbs v ≤ 32767
-small v h k = omega (arith, ints)
+-- an entry that nothing refuses is wanted, and in its range
+pub enters : (s : Sheet) (v : ℤ) → entry-refusal (begun s) v ≡ None → (s .filled < capacity (head-of (s .heading))) × (natAbs v ≤ 32767)
+enters s v e =
+    elim (leb (capacity (head-of (s .heading))) (length (take (s .filled) (s .values)))) as (λ b. leb (capacity (head-of (s .heading))) (length (take (s .filled) (s .values))) ≡ b → _≡_ {A = Option Refusal} (cond b (Some TooManyEntries) (cond (leb (natAbs v) 32767) None (Some OutOfRange))) None → (s .filled < capacity (head-of (s .heading))) × (natAbs v ≤ 32767)) [
+      | true ↦ (λ q f. let w : _≡_ {A = ℕ} 0 1 = cc in absurd (omega arith))
+      | false ↦ (λ q. elim (leb (natAbs v) 32767) as (λ b. leb (natAbs v) 32767 ≡ b → _≡_ {A = Option Refusal} (cond b None (Some OutOfRange)) None → (s .filled < capacity (head-of (s .heading))) × (natAbs v ≤ 32767)) [
+        | true ↦ (λ r f. (omega (arith, counts s, leb-false _ _ q), leb-true _ _ r))
+        | false ↦ (λ r f. let w : _≡_ {A = ℕ} 0 1 = cc in absurd (omega arith))
+      ] refl)
+    ] refl e
 
 pub stored : (vs : List ℤ) (k : ℕ) (v : ℤ) → SFits w64 v → natAbs v ≤ 32767 → k < length vs → take (k + 1) (set vs k (toZ w16 (ofZ w16 (toZ w64 (ofZ w64 v))))) ≡ take k vs ++ v ∷ []
 stored vs k v f a h =

@@ -12,7 +12,6 @@ ghost use Rattle.sheets.specs.Tables.{begun, held, fresh, push, entry-refusal,
 use crate::sheet::Sheet;
 use faults::fault::Fault;
 use faults::fault::Part;
-use faults::fault::Refusal;
 use headings::heading::Heading;
 use headings::heading::Screw;
 
@@ -83,15 +82,10 @@ impl Definition<'_> {
         ensures stays { λ _. ⌜ now (now (self .exit) .sheet) .complete ≡ now (now (self .entry) .sheet) .complete ⌝ }
         ensures after { λ r. ⌜ begun (now (now (self .exit) .sheet)) ≡ cond (isOk r) (push (begun (now (now (self .entry) .sheet))) value) (begun (now (now (self .entry) .sheet))) ⌝ }
     {
-        let heading = self.sheet.heading;
-        if self.sheet.filled >= heading.entries() {
-            return Err(Fault::of(Part::Sheet, Refusal::TooManyEntries));
+        if let Some(refusal) = self.sheet.entry_refusal(value) {
+            return Err(Fault::of(Part::Sheet, refusal));
         }
-        if value < -32767 || value > 32767 {
-            return Err(Fault::of(Part::Sheet, Refusal::OutOfRange));
-        }
-        self.sheet.values[self.sheet.filled] = value as i16;
-        self.sheet.filled += 1;
+        self.sheet.store(value);
         Ok(())
     }
 
@@ -100,37 +94,37 @@ impl Definition<'_> {
         ensures value { λ r. ⌜ r ≡ length (begun (now (now (self .entry) .sheet)) .entries) ⌝ }
         ensures bound { λ r. ⌜ r ≤ 288 ⌝ }
     {
-        self.sheet.filled
+        self.sheet.count()
     }
 
     /// Whether a closing would be accepted now.
     pub fn check(&self) -> Result<(), Fault>
         ensures { λ r. ⌜ errPart r ≡ mappedSome sheet-fault (close-refusal (begun (now (now (self .entry) .sheet)))) ⌝ }
     {
-        let heading = self.sheet.heading;
-        if self.sheet.filled != heading.entries() {
-            return Err(Fault::of(Part::Sheet, Refusal::Incomplete));
+        match self.sheet.close_refusal() {
+            Some(refusal) => Err(Fault::of(Part::Sheet, refusal)),
+            None => Ok(()),
         }
-        Ok(())
     }
 
-    /// Ends the definition; the sheet stays empty.
+    /// Ends the definition; the sheet is empty.
     pub fn cancel(self)
-        ensures { λ _. ⌜ now (self .exit .0) ≡ now (self .entry .sheet) ⌝ }
+        ensures { λ _. ⌜ held (now (self .exit .0)) ≡ None ⌝ }
     {
-        let Definition { sheet: _ } = self;
+        let Definition { sheet: cancelled } = self;
+        cancelled.complete = false;
     }
 
-    /// Ends the definition, and makes the sheet complete if all entries are in.
+    /// Ends the definition: the sheet holds the table if all entries are in, and is empty if not.
     pub fn close(self) -> Result<(), Fault>
         ensures fault { λ r. ⌜ errPart r ≡ mappedSome sheet-fault (close-refusal (begun (now (self .entry .sheet)))) ⌝ }
-        ensures after { λ r. ⌜ held (now (self .exit .0)) ≡ cond (isOk r) (Some (begun (now (self .entry .sheet)))) (held (now (self .entry .sheet))) ⌝ }
+        ensures after { λ r. ⌜ held (now (self .exit .0)) ≡ cond (isOk r) (Some (begun (now (self .entry .sheet)))) None ⌝ }
     {
         let Definition { sheet } = self;
-        if sheet.filled != sheet.heading.entries() {
-            return Err(Fault::of(Part::Sheet, Refusal::Incomplete));
+        if let Some(refusal) = sheet.close_refusal() {
+            return Err(Fault::of(Part::Sheet, refusal));
         }
-        sheet.complete = true;
+        sheet.complete();
         Ok(())
     }
 }

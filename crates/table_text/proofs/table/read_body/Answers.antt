@@ -33,7 +33,7 @@ returns-then-not-is-empty c =
     let here = c .in-Some .ensures tt .0 in
     let k : c .filled-at .result + 2 ≡ next t = ap (λ n. n + 2) (c .filled-at .ensures .value) in
     let e = d ∙ at-more t rest l a here (c .is-close .ensures .0 (c .if-is-close .taken)) (accepted-by (close-refusal t) (c .in-rest-check .ensures tt)) (eqb-false _ _ (sym (c .if-not-is-empty .ensures tt))) in
-    let o : held (c .cancel-then-not-is-empty .last .self .0) ≡ None = not-held (c .cancel-then-not-is-empty .last .self .0) (ap (λ s. s .complete) (c .cancel-then-not-is-empty .ensures) ∙ m) in
+    let o : held (c .cancel-then-not-is-empty .last .self .0) ≡ None = c .cancel-then-not-is-empty .ensures in
     let n = sym (c .open-definition .ensures .lends) ∙ sym (i .0) in
     record {
       fault = ap (λ f. Some f) (c .in-text-then-not-is-empty .ensures ∙ ap (λ x. text-fault WrongForm (x + 1)) k) ∙ sym (ap errPart e);
@@ -55,7 +55,7 @@ returns-then-is-close c =
     let q = accepted-by (close-refusal t) (c .in-rest-check .ensures tt) in
     let e = d ∙ at-end t rest l a here (c .is-close .ensures .0 (c .if-is-close .taken)) q (eqb-true _ _ (sym (c .if-not-is-empty .ensures tt))) in
     let n = sym (c .open-definition .ensures .lends) ∙ sym (i .0) in
-    let z = closed (c .close .result) t (held (c .loop-line .definition .sheet .now)) (c .close .ensures .fault) q in
+    let z = closed (c .close .result) t None (c .close .ensures .fault) q in
     record {
       fault = z .0 ∙ sym (ap errPart e);
       after = back (c .sheet-then-is-close·1 .given .0) (c .close .last .self .0) _ _ (c .sheet-then-is-close·1 .given .1) n ∙ c .close .ensures .after ∙ z .1 ∙ sym (ap okPart e);
@@ -74,7 +74,7 @@ returns-in-rest-read-whole c =
     let here = c .in-Some .ensures tt .0 in
     let k : c .filled-at .result + 2 ≡ next t = ap (λ n. n + 2) (c .filled-at .ensures .value) in
     let e = d ∙ at-other t rest l a here (λ x. both-ways _ (c .if-is-close .left) (c .is-close .ensures .1 x)) None (sym (c .in-rest-read-whole .ensures tt)) in
-    let o : held (c .cancel-in-rest-read-whole .last .self .0) ≡ None = not-held (c .cancel-in-rest-read-whole .last .self .0) (ap (λ s. s .complete) (c .cancel-in-rest-read-whole .ensures) ∙ m) in
+    let o : held (c .cancel-in-rest-read-whole .last .self .0) ≡ None = c .cancel-in-rest-read-whole .ensures in
     let n = sym (c .open-definition .ensures .lends) ∙ sym (i .0) in
     record {
       fault = ap (λ f. Some f) (c .in-text-in-rest-read-whole .ensures ∙ ap (text-fault WrongForm) k) ∙ sym (ap errPart e);
@@ -98,7 +98,7 @@ returns-in-Err-enter c =
     let h = c .in-Err-enter .ensures tt in
     let r = refused-by (entry-refusal t (toZ w64 (ofZ w64 v))) (c .in-Err-enter .fault) (h .fault) in
     let e = d ∙ at-refused t rest l a here (λ x. both-ways _ (c .if-is-close .left) (c .is-close .ensures .1 x)) v (sym (c .in-Some-read-whole .ensures tt)) (c .in-Err-enter .fault .refusal) (ap (entry-refusal t) (sym (toZ-ofZ w64 v f)) ∙ r) in
-    let o : held (c .cancel-in-Err-enter .last .self .0) ≡ None = not-held (c .cancel-in-Err-enter .last .self .0) (ap (λ s. s .complete) (c .cancel-in-Err-enter .ensures) ∙ h .stays ∙ m) in
+    let o : held (c .cancel-in-Err-enter .last .self .0) ≡ None = c .cancel-in-Err-enter .ensures in
     let n = sym (c .open-definition .ensures .lends) ∙ sym (i .0) ∙ sym (h .lends) in
     record {
       fault = ap (λ f. Some f) (c .in-text-in-Err-enter .ensures ∙ ap (text-fault (c .in-Err-enter .fault .refusal)) k) ∙ sym (ap errPart e);

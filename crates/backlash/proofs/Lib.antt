@@ -1,0 +1,2 @@
+pub mod BacklashLaws
+pub mod Taking

@@ -1,0 +1,3 @@
+pub mod BacklashLayers
+pub mod Marked
+pub mod TakeUps

@@ -1,0 +1,3 @@
+//! Stacks of layers: what they mean, and the laws of all of them.
+pub mod laws;
+pub mod pair;

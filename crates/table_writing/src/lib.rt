@@ -1,0 +1,5 @@
+//! Table texts, written.
+pub mod heading;
+pub mod page;
+pub mod put;
+pub mod write;
