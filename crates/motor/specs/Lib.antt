@@ -1,0 +1,4 @@
+pub mod Cases
+pub mod Motors
+pub mod Replies
+pub mod States

@@ -1,0 +1,4 @@
+pub mod Near
+pub mod Places
+pub mod Products
+pub mod Sizes

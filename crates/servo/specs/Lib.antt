@@ -1,0 +1,5 @@
+pub mod Causes
+pub mod Clip
+pub mod Memories
+pub mod Ranges
+pub mod Step
