@@ -7,6 +7,7 @@ use Rattle.notch.specs.declared.notch.Notch.{Notch}
 use Rattle.notch.specs.Filter.{rest, after, output}
 use Rattle.servo.specs.declared.settings.GainSettings.{GainSettings}
 use Rattle.servo.specs.declared.cause.Cause.{Cause}
+use Rattle.servo.specs.Clip.{clipped}
 use Rattle.servo.specs.Ranges.{at-limit, fresh-settings}
 use Rattle.servo.specs.Memories.{Kept, memory-of, nothing, starting, sent-to}
 use Rattle.servo.specs.Step.{answer, remembered}
@@ -37,7 +38,15 @@ abbrev pub stopped : State → MotorView → MotorView
 stopped s m =
     record { state = s; correction = m .correction; gains = m .gains; memory = nothing; notch = rest; output = pos 0 }
 
--- what an event does in a state: a kill in every one, a trip where the motor is closed, a closing where it is not
+abbrev pub with-memory : Kept → MotorView → MotorView
+with-memory a m =
+    record { state = m .state; correction = m .correction; gains = m .gains; memory = a; notch = m .notch; output = m .output }
+
+-- closed at x
+abbrev pub closed-at : ℤ → MotorView → MotorView
+closed-at x m = with-memory (starting x) (stopped Closed m)
+
+-- what an event does in a state: a kill in every one, a trip where the motor is closed, a closing at x where it is not
 abbrev pub taken-in : State → Event → MotorView → MotorView
 taken-in Killed Kill m = stopped Killed m
 taken-in Closed Kill m = stopped Killed m
@@ -45,9 +54,9 @@ taken-in (Tripped c) Kill m = stopped Killed m
 taken-in Killed (Trip c) m = m
 taken-in Closed (Trip c) m = stopped (Tripped c) m
 taken-in (Tripped d) (Trip c) m = m
-taken-in Killed Closing m = stopped Closed m
-taken-in Closed Closing m = m
-taken-in (Tripped c) Closing m = stopped Closed m
+taken-in Killed (Closing x) m = closed-at (clipped 1099512152048 x) m
+taken-in Closed (Closing x) m = m
+taken-in (Tripped c) (Closing x) m = closed-at (clipped 1099512152048 x) m
 
 abbrev pub taken : Event → MotorView → MotorView
 taken e m = taken-in (m .state) e m
@@ -83,14 +92,6 @@ stepped-in (Tripped c) x m = m
 -- one cycle at x
 abbrev pub stepped : ℤ → MotorView → MotorView
 stepped x m = stepped-in (m .state) x m
-
-abbrev pub with-memory : Kept → MotorView → MotorView
-with-memory a m =
-    record { state = m .state; correction = m .correction; gains = m .gains; memory = a; notch = m .notch; output = m .output }
-
--- closed at x
-abbrev pub closed-at : ℤ → MotorView → MotorView
-closed-at x m = with-memory (starting x) (stopped Closed m)
 
 -- with other gains, and sent to another target
 abbrev pub given : GainSettings → MotorView → MotorView

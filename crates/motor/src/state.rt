@@ -9,10 +9,10 @@ pub enum State {
     Tripped(Cause),
 }
 
-/// What changes a motor's state.
+/// What changes a motor's state. A closing names the position that the motor is closed at.
 #[derive(Clone, Copy)]
 pub enum Event {
-    Closing,
+    Closing(i64),
     Kill,
     Trip(Cause),
 }
