@@ -88,7 +88,7 @@ fn refuses_what_does_not_fit(rt: LibcRuntime) -> Result<(), Fail> {
     )
 }
 
-/// The eight-entry screw of the public manual, and a plane that one axis reads both ways.
+/// A screw of eight entries over 4,000 counts, and a plane that one axis reads both ways.
 #[test]
 fn knows_worked_examples(rt: LibcRuntime) -> Result<(), Fail> {
     writes(

@@ -23,6 +23,36 @@ fn ranged(value: i64, high: u32) -> Result<u32, Fault>
     Ok(value as u32)
 }
 
+// Each number of a plane's heading, checked from left to right.
+fn checked_plane(
+    rows: i64,
+    columns: i64,
+    row_motor: i64,
+    column_motor: i64,
+    target: i64,
+    row_span: i64,
+    column_span: i64,
+) -> Result<Heading, Fault>
+    ensures { λ r. ⌜ mapped head-of (λ f. f) r ≡ plane-heading rows columns «row_motor» «column_motor» target «row_span» «column_span» ⌝ }
+{
+    let rows = ranged(rows, 16)? as u8;
+    let columns = ranged(columns, 16)? as u8;
+    let row_motor = ranged(row_motor, 8)? as u8;
+    let column_motor = ranged(column_motor, 8)? as u8;
+    let target = ranged(target, 8)? as u8;
+    let row_span = ranged(row_span, 262144)?;
+    let column_span = ranged(column_span, 262144)?;
+    Ok(Heading::Plane(Plane {
+        rows,
+        columns,
+        row_motor,
+        column_motor,
+        target,
+        row_span,
+        column_span,
+    }))
+}
+
 impl Heading {
     /// A screw table's heading, if each number is in its range.
     pub fn screw(entries: i64, source: i64, target: i64, span: i64) -> Result<Heading, Fault>
@@ -52,14 +82,7 @@ impl Heading {
     ) -> Result<Heading, Fault>
         ensures { λ r. ⌜ mapped head-of (λ f. f) r ≡ plane-heading rows columns «row_motor» «column_motor» target «row_span» «column_span» ⌝ }
     {
-        let rows = ranged(rows, 16)? as u8;
-        let columns = ranged(columns, 16)? as u8;
-        let row_motor = ranged(row_motor, 8)? as u8;
-        let column_motor = ranged(column_motor, 8)? as u8;
-        let target = ranged(target, 8)? as u8;
-        let row_span = ranged(row_span, 262144)?;
-        let column_span = ranged(column_span, 262144)?;
-        Ok(Heading::Plane(Plane {
+        checked_plane(
             rows,
             columns,
             row_motor,
@@ -67,7 +90,7 @@ impl Heading {
             target,
             row_span,
             column_span,
-        }))
+        )
     }
 
     /// How many entries the table has.

@@ -10,7 +10,7 @@ use Rattle.std.proofs.shelf.Tests.{and-from}
 use Rattle.faults.specs.declared.fault.Fault.{Fault}
 use Rattle.headings.specs.Heads.{Head, plane, plane-fits}
 use Rattle.headings.proofs.Planes.{passed, refuses, accepts, bad-column-motor, bad-target, bad-row-span, bad-column-span}
-use Rattle.headings.proofs.heading.Heading.plane.Needs as need
+use Rattle.headings.proofs.make.checked_plane.Needs as need
 
 pub returns-in-Break-column-motor : need.returns-in-Break-column-motor
 returns-in-Break-column-motor c =
