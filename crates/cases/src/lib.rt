@@ -1,4 +1,6 @@
 //! Worked examples, run: each refusal with its line, axis and part, and tables of known values.
+#![tactic(auto)]
+
 #[cfg(test)]
 mod banks;
 #[cfg(test)]

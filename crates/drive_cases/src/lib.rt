@@ -1,4 +1,6 @@
 //! Ten thousand random cycles of a motor, held to an independent drive.
+#![tactic(auto)]
+
 #[cfg(test)]
 mod draw;
 #[cfg(test)]

@@ -1,3 +1,5 @@
 //! Layers that correct a source of positions.
+#![tactic(auto)]
+
 pub mod below;
 pub mod sheet_layer;

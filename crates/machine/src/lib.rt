@@ -1,4 +1,6 @@
 //! A machine over any source of positions: eight motors, and the calls that reach them.
+#![tactic(auto)]
+
 pub mod calls;
 mod checks;
 pub mod cycle;

@@ -1,2 +1,4 @@
 //! The law over two mills, for every list of calls.
+#![tactic(auto)]
+
 pub mod laws;

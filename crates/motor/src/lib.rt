@@ -1,4 +1,6 @@
 //! One motor: its record, its state, its events and its cycle; and the reply to an error.
+#![tactic(auto)]
+
 pub mod calls;
 pub mod cases;
 pub mod cycle;

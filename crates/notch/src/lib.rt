@@ -1,4 +1,6 @@
 //! The notch filter of one motor.
+#![tactic(auto)]
+
 pub mod filter;
 pub mod laws;
 pub mod notch;

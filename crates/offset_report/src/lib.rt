@@ -1,4 +1,6 @@
 //! The offsets that a table gives a one-axis encoder bank, reading by reading.
+#![tactic(auto)]
+
 pub mod input;
 pub mod offsets;
 pub mod readings;

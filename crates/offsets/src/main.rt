@@ -1,4 +1,6 @@
 //! `offsets`: a table text and encoder readings in, bare positions and offsets out.
+#![tactic(auto)]
+
 use offset_report::offsets::offsets;
 use program_input::read_input;
 use std::io;

@@ -1,4 +1,6 @@
 //! Two mills that are asked the same, and the law over them.
+#![tactic(auto)]
+
 mod lists;
 pub mod mill_run;
 pub mod obey;

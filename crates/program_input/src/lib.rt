@@ -1,4 +1,6 @@
 //! The standard input of a program, up to a limit.
+#![tactic(auto)]
+
 ghost use Rattle.std.specs.Prelude.{◌≤◌, IfOk, vec_len};
 
 use std::io;

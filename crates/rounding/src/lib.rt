@@ -1,4 +1,6 @@
 //! Rounding over whole numbers.
+#![tactic(auto)]
+
 pub mod fraction;
 pub mod laws;
 pub mod round;

@@ -1,4 +1,6 @@
 //! One axis's gains, and the whole-number part of its servo step.
+#![tactic(auto)]
+
 mod arith;
 pub mod cause;
 mod errors;

@@ -1,2 +1,4 @@
 //! What every source of positions answers.
+#![tactic(auto)]
+
 pub mod source;

@@ -1,3 +1,5 @@
 //! Table texts, read.
+#![tactic(auto)]
+
 pub mod heading;
 pub mod table;

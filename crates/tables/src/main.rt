@@ -1,4 +1,6 @@
 //! `tables`: a table text in, the same text out, written again from the sheet that it was read into, or the line of its fault.
+#![tactic(auto)]
+
 use program_input::read_input;
 use std::io;
 use std::io::Write;

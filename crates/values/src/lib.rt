@@ -1,4 +1,6 @@
 //! What a compensation table says at a position.
+#![tactic(auto)]
+
 mod interpolation;
 pub mod laws;
 mod place;

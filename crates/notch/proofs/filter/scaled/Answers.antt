@@ -9,5 +9,5 @@ unit_is = refl
 
 pub returns : goal.returns
 returns c =
-    ap (λ x. mul binary64 x (of_bits binary64 4517110426252607488)) (c.nearest-i64-to-f64.ensures ∙ ap (of_int binary64) (to_z-of_z w64 c.args.n (search rules)))
+    ap (λ x. mul binary64 x (of_bits binary64 4517110426252607488)) (c.nearest_i64_to_f64.ensures ∙ ap (of_int binary64) (to_z-of_z w64 c.args.n (search rules)))
     ∙ ap (λ x. mul binary64 (of_int binary64 c.args.n) x) unit_is

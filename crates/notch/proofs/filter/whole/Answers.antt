@@ -5,7 +5,7 @@ use Rattle.notch.proofs.filter.whole.Goals as goal
 
 pub returns : goal.returns
 returns c =
-    let value : to_z w32 (of_z w32 c.saturating-f64-to-i32.result) ≡ to_signed 31 c.args.y = search rules in
+    let value : to_z w32 (of_z w32 c.saturating_f64_to_i32.result) ≡ to_signed 31 c.args.y = search rules in
     record {
       value = value;
       bound = λ limit raw e small. subst (λ z. nat_abs z ≤ nat_abs limit) (sym (value ∙ ap (to_signed 31) e)) (bounded limit raw small);

@@ -8,7 +8,7 @@ pub loop-end-preserved : goal.loop-end-preserved
 loop-end-preserved c =
     let s = c.args.text.now in
     let i = c.loop-end.end in
-    let d : is_ascii_digit (get_or s i 0) ≡ true = sym c.is-ascii-digit.ensures.value ∙ c.if-not-is-ascii-digit.false in
+    let d : is_ascii_digit (get_or s i 0) ≡ true = sym c.is_ascii_digit.ensures.value ∙ c.if-not-is_ascii_digit.false in
     let l : length (front (drop i s)) ≡ length (front (drop (i + 1) s)) + 1 = front_more length s i c.loop-end-test.true d ∙ omega arith in
     let w = front_more (worth c.loop-end.size) s i c.loop-end-test.true d in
     let m : c.min-size.result ≡ min (c.loop-end.size * 10 + (get_or s i 0 - 48)) 10000000000 = c.min-size.ensures in
