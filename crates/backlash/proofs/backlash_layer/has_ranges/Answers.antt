@@ -6,6 +6,6 @@ pub returns : goal.returns
 unfolding ranges
 returns c = search rules
 
-pub returns-then-not-in-range : goal.returns-then-not-in-range
+pub returns-then-not-in_range : goal.returns-then-not-in_range
 unfolding ranges
-returns-then-not-in-range c = search rules
+returns-then-not-in_range c = search rules

@@ -7,13 +7,13 @@ use Rattle.banks.specs.Bank.{start_bad, started, named}
 use Rattle.banks.specs.Walking.{named_ok, bad_here, good_more, good_all, overlaid_more, overlaid_all, set_near}
 use Rattle.banks.proofs.walk.start_axes.Goals as goal
 
-pub returns-in-err-axes : goal.returns-in-err-axes
-returns-in-err-axes c =
-    let p = err_from_is_err_and c.from-residual.result c.from-residual.ensures.1 in
+pub returns-in_err-axes : goal.returns-in_err-axes
+returns-in_err-axes c =
+    let p = err_from_is_err_and c.from_residual.result c.from_residual.ensures.1 in
     let g = c.args.gauge in
     let xs = c.args.readings.now in
     let i = c.loop-axis.axis in
-    let said = ap (named i) (sym c.start.ensures.value) ∙ sym c.name.ensures ∙ c.in-err-axes.was ∙ ap Err (sym p.2) in
+    let said = ap (named i) (sym c.start.ensures.value) ∙ sym c.name.ensures ∙ c.in_err-axes.was ∙ ap Err (sym p.2) in
     rw p.1 (record {
       value = bad_here (start_bad g) xs i 0 (start g (get_or xs i 0)) p.0 (started g xs)
           c.loop-axis-test.true said c.loop-axis.invariant.1;
@@ -25,12 +25,12 @@ loop-axis-preserved c =
     let g = c.args.gauge in
     let xs = c.args.readings.now in
     let i = c.loop-axis.axis in
-    let next = c.in-ok-axes.field-0 in
-    let said = ap (named i) (sym c.start.ensures.value) ∙ sym c.name.ensures ∙ c.in-ok-axes.was in
+    let next = c.in_ok-axes.field-0 in
+    let said = ap (named i) (sym c.start.ensures.value) ∙ sym c.name.ensures ∙ c.in_ok-axes.was in
     let good = named_ok i (start_bad g i (get_or xs i 0)) (start g (get_or xs i 0)) next said in
     let lt : c.loop-axis.axis < length c.args.readings.now = c.loop-axis-test.true in
     let room : c.loop-axis.axis < length blanks = omega arith in
-    let is : c.start.result ≡ Ok c.in-ok-axes.field-0 = c.start.ensures.value ∙ ap (λ o. outcome o (start g (get_or xs i 0))) good.0 ∙ ap Ok good.1 in (
+    let is : c.start.result ≡ Ok c.in_ok-axes.field-0 = c.start.ensures.value ∙ ap (λ o. outcome o (start g (get_or xs i 0))) good.0 ∙ ap Ok good.1 in (
       ap (λ z. set c.loop-axis.axes i z) (sym good.1)
           ∙ ap (λ zs. set zs i (start g (get_or xs i 0))) c.loop-axis.invariant.0
           ∙ rw add-one (overlaid_more (λ _ x. start g x) blanks xs i 0 lt room),

@@ -6,4 +6,4 @@ use Rattle.std.proofs.lemmas.Bool.Decides.{Decides-eqb}
 
 pub returns : goal.returns
 returns c =
-    stripped c.args.lead.now c.args.text.now c.strip-prefix.result (strip_prefix_is Decides-eqb c.args.text.now c.args.lead.now c.strip-prefix.result c.strip-prefix.ensures.cases)
+    stripped c.args.lead.now c.args.text.now c.strip_prefix.result (strip_prefix_is Decides-eqb c.args.text.now c.args.lead.now c.strip_prefix.result c.strip_prefix.ensures.cases)

@@ -5,6 +5,6 @@ use Rattle.lines.proofs.output.put_numeral.Goals as goal
 
 pub returns : goal.returns
 returns c =
-    joins (vec_items c.args.out.now) (vec_items c.extend-from-slice.new.self) (vec_items c.extend-from-slice-2.new.self) c.args.lead.now (written c.args.numeral.now)
-    c.in-ok-extend-from-slice.ensures.items
-    (c.in-ok-extend-from-slice-2.ensures.items ∙ ap (λ s. vec_items c.extend-from-slice.new.self ++ s) c.text.ensures)
+    joins (vec_items c.args.out.now) (vec_items c.extend_from_slice.new.self) (vec_items c.extend_from_slice-2.new.self) c.args.lead.now (written c.args.numeral.now)
+    c.in_ok-extend_from_slice.ensures.items
+    (c.in_ok-extend_from_slice-2.ensures.items ∙ ap (λ s. vec_items c.extend_from_slice.new.self ++ s) c.text.ensures)

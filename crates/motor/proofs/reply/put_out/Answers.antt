@@ -15,7 +15,7 @@ returns-in-Ok c =
     let fu : SFits w64 c.in-Ok.u = search rules in
     let l = to_z-of_z w64 g.output_limit fl in
     let u = to_z-of_z w64 c.in-Ok.u fu in
-    to_z-of_z w32 c.filter.result fo ∙ c.filter.ensures.out ∙ (λ i. output (c.at-rest-notch.ensures i) g.notch (l i) (u i))
+    to_z-of_z w32 c.filter.result fo ∙ c.filter.ensures.out ∙ (λ i. output (c.at_rest-notch.ensures i) g.notch (l i) (u i))
     ∙ ap (put_out g) {y = answer g (memory_of c.args.memory) false (pos 0)} (sym c.in-Ok.is ∙ c.step.ensures.value)
 
 pub returns-in-Err : goal.returns-in-Err

@@ -24,10 +24,10 @@ returns-after-loop-end c =
       bound = (omega arith, omega arith);
     }
 
-pub returns-then-not-is-ascii-digit : goal.returns-then-not-is-ascii-digit
-returns-then-not-is-ascii-digit c =
+pub returns-then-not-is_ascii_digit : goal.returns-then-not-is_ascii_digit
+returns-then-not-is_ascii_digit c =
     let s = c.args.text.now in
-    let d : is_ascii_digit (get_or s c.loop-end.end 0) ≡ false = sym c.is-ascii-digit.ensures.value ∙ c.if-not-is-ascii-digit.true in
+    let d : is_ascii_digit (get_or s c.loop-end.end 0) ≡ false = sym c.is_ascii_digit.ensures.value ∙ c.if-not-is_ascii_digit.true in
     let l : length (front (drop c.loop-end.end s)) ≡ 0 = front_stop length s c.loop-end.end c.loop-end-test.true d in
     record {
       end = omega (arith, c.loop-end.invariant.2);

@@ -19,9 +19,9 @@ returns c =
     let out = vec_items c.args.out.now in
     let mid = vec_items c.put-2.new.out in
     let fit : sheet_fit (Some (begun c.args.sheet.now)) (bank_meaning c.args.bank []) ≡ None =
-    ap (λ (o : Option Table). sheet_fit o (bank_meaning c.args.bank [])) (sym c.requires.complete) ∙ fits_of (sheet_fit (held c.args.sheet.now) (bank_meaning c.args.bank [])) c.in-default.ensures in
+    ap (λ (o : Option Table). sheet_fit o (bank_meaning c.args.bank [])) (sym c.requires.complete) ∙ fits_of (sheet_fit (held c.args.sheet.now) (bank_meaning c.args.bank [])) c.in_default.ensures in
     let layer : sheet_put c.put-layer.result.sheet (bank_meaning c.put-layer.result.below) ≡ table_put (Some (begun c.args.sheet.now)) (bank_meaning c.args.bank) =
     c.put-layer.ensures ∙ ap (λ (o : Option Table). table_put o (bank_meaning c.args.bank)) c.requires.complete in
     put_fits t m k c.args.rest.now out mid (vec_items c.follow.new.out) fit
-    (c.in-ok-put.ensures ∙ ap (λ (r : Report). vec_items c.args.out.now ++ report_line r) (c.see.ensures ∙ ap (λ (n : Meaning). seen_at c.args.line (n [])) layer))
-    (c.in-ok-follow.ensures ∙ ap (λ (n : Meaning). vec_items c.put-2.new.out ++ rest_of n (c.args.line + 1) c.args.rest.now) layer)
+    (c.in_ok-put.ensures ∙ ap (λ (r : Report). vec_items c.args.out.now ++ report_line r) (c.see.ensures ∙ ap (λ (n : Meaning). seen_at c.args.line (n [])) layer))
+    (c.in_ok-follow.ensures ∙ ap (λ (n : Meaning). vec_items c.put-2.new.out ++ rest_of n (c.args.line + 1) c.args.rest.now) layer)

@@ -15,9 +15,9 @@ loop-call-init g c =
 pub loop-call-preserved : goal.loop-call-preserved
 loop-call-preserved g c =
     let means = g.S.Source.means in
-    one_more c.args.calls.now c.loop-call.call-index _ (vec_items c.loop-call.answers) (vec_items c.push.new.self) c.in-ok-answer.answer
+    one_more c.args.calls.now c.loop-call.call-index _ (vec_items c.loop-call.answers) (vec_items c.push.new.self) c.in_ok-answer.answer
     (mill_of means c.loop-call.machine) (mill_of means c.obey.new.machine) (mill_of means c.new-machine.result) c.loop-call-test.true
-    c.in-ok-answer.ensures c.in-ok-push.ensures.items c.loop-call.invariant
+    c.in_ok-answer.ensures c.in_ok-push.ensures.items c.loop-call.invariant
 
 pub returns : goal.returns
 returns g c =

@@ -12,8 +12,8 @@ returns c =
     let a = c.args.axis in
     let z = c.args.target +ℤ shift_of c.args.shift.now a in
     let ft : SFits w64 c.args.target = c.ranges.target in
-    let fk : SFits w64 c.shift-at.result = search rules in
-    let fr : SFits w64 c.saturating-add.result = search rules in
-    let sum : c.saturating-add.result ≡ saturate_to_bits 63 (c.args.target +ℤ c.shift-at.result) = simp to_z-of_z at c.saturating-add.ensures in
-    let e = to_z-of_z w64 c.saturating-add.result fr ∙ sum ∙ ap (λ (k : ℤ). saturate_to_bits 63 (c.args.target +ℤ k)) c.shift-at.ensures in
+    let fk : SFits w64 c.shift_at.result = search rules in
+    let fr : SFits w64 c.saturating_add.result = search rules in
+    let sum : c.saturating_add.result ≡ saturate_to_bits 63 (c.args.target +ℤ c.shift_at.result) = simp to_z-of_z at c.saturating_add.ensures in
+    let e = to_z-of_z w64 c.saturating_add.result fr ∙ sum ∙ ap (λ (k : ℤ). saturate_to_bits 63 (c.args.target +ℤ k)) c.shift_at.ensures in
     subst (λ (x : ℤ). ActsAlike (target a x) (target a z)) (sym e) (saturated_alike a z)

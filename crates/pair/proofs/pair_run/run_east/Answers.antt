@@ -12,6 +12,6 @@ pub returns : goal.returns
 returns g c =
     let means = g.E.Source.means in
     let asked = easts (map pair_of c.args.calls.now) in
-    let alike = subst (λ (cs : List Call). AllAlike (map command_of cs) asked) (sym c.as-slice.ensures.value) c.in-ok-asked.ensures in
-    ran_alike c.run-mill.result (λ d. map reply_of (vec_items d.answers)) (λ d. mill_of means d.machine) (map command_of c.as-slice.result.now) asked (fresh_mill (means c.args.source))
-    alike c.run-mill.ensures
+    let alike = subst (λ (cs : List Call). AllAlike (map command_of cs) asked) (sym c.as_slice.ensures.value) c.in_ok-asked.ensures in
+    ran_alike c.run_mill.result (λ d. map reply_of (vec_items d.answers)) (λ d. mill_of means d.machine) (map command_of c.as_slice.result.now) asked (fresh_mill (means c.args.source))
+    alike c.run_mill.ensures

@@ -2,7 +2,7 @@ use Rattle.std.proofs.Common.{arith}
 use Rattle.servo.proofs.Sizes.{Sizes, sizes}
 use Rattle.servo.proofs.gains.accepted.Goals as goal
 
-pub invariant-of-result : goal.invariant-of-result
-invariant-of-result c =
+pub invariant_of-result : goal.invariant_of-result
+invariant_of-result c =
     let h = sizes c.args.settings c.requires in
     (c.requires, ((omega arith, omega arith, omega arith, omega arith, omega arith), ((omega arith, omega arith, omega arith, omega arith), tt)))

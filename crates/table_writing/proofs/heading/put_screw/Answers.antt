@@ -12,10 +12,10 @@ returns c =
     let t = decimal c.args.target in
     let e = decimal c.args.span in
     let p0 = on c.args.page.now in
-    let p1 = on c.put-field.new.self in
-    let p2 = on c.put-field-2.new.self in
-    let p3 = on c.put-field-3.new.self in
-    let p4 = on c.put-field-4.new.self in
-    then_field p0 p1 p4 (codes "DEFINE COMP ") n (codes ",#" ++ (s ++ (codes ",#" ++ (t ++ (codes "," ++ e))))) c.put-field.ensures
-    (then_field p1 p2 p4 (codes ",#") s (codes ",#" ++ (t ++ (codes "," ++ e))) c.put-field-2.ensures
-    (then_field p2 p3 p4 (codes ",#") t (codes "," ++ e) c.put-field-3.ensures c.put-field-4.ensures))
+    let p1 = on c.put_field.new.self in
+    let p2 = on c.put_field-2.new.self in
+    let p3 = on c.put_field-3.new.self in
+    let p4 = on c.put_field-4.new.self in
+    then_field p0 p1 p4 (codes "DEFINE COMP ") n (codes ",#" ++ (s ++ (codes ",#" ++ (t ++ (codes "," ++ e))))) c.put_field.ensures
+    (then_field p1 p2 p4 (codes ",#") s (codes ",#" ++ (t ++ (codes "," ++ e))) c.put_field-2.ensures
+    (then_field p2 p3 p4 (codes ",#") t (codes "," ++ e) c.put_field-3.ensures c.put_field-4.ensures))

@@ -19,14 +19,14 @@ returns c =
     let cl = CLOSE ++ 10 ∷ [] in
     let rows = joined_lines (map signed_decimal es) [] in
     let p0 = on c.new-page.result in
-    let p1 = on c.put-heading.new.page in
+    let p1 = on c.put_heading.new.page in
     let p2 = on c.push.new.self in
-    let p3 = on c.put-entries.new.page in
-    let p4 = on c.put-close.new.page in
-    let e : p3 ≡ clip (p2 ++ rows) = c.put-entries.ensures ∙ ap (λ x. clip (p2 ++ joined_lines (map signed_decimal x) [])) c.entries.ensures.value in
-    let a = then p2 p3 p4 rows cl e c.put-close.ensures in
+    let p3 = on c.put_entries.new.page in
+    let p4 = on c.put_close.new.page in
+    let e : p3 ≡ clip (p2 ++ rows) = c.put_entries.ensures ∙ ap (λ x. clip (p2 ++ joined_lines (map signed_decimal x) [])) c.entries.ensures.value in
+    let a = then p2 p3 p4 rows cl e c.put_close.ensures in
     let b = then p1 p2 p4 (10 ∷ []) (rows ++ cl) c.push.ensures a in
-    let d = then p0 p1 p4 hl (10 ∷ (rows ++ cl)) c.put-heading.ensures b in
+    let d = then p0 p1 p4 hl (10 ∷ (rows ++ cl)) c.put_heading.ensures b in
     d ∙ ap (λ x. clip (x ++ (hl ++ 10 ∷ (rows ++ cl)))) c.new-page.ensures
     ∙ ap (λ x. clip (hl ++ 10 ∷ x)) (sym (joined_append (map signed_decimal es) (CLOSE ∷ [])))
     ∙ ap (λ h. clip (heading_line h ++ 10 ∷ joined_lines (map signed_decimal es ++ CLOSE ∷ []) [])) c.heading-heading.ensures

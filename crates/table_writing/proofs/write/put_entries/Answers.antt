@@ -18,7 +18,7 @@ loop-value-preserved c =
     let x = get_or es i (pos 0) in
     let f : SFits w16 x = search rules in
     let q : to_z w64 (of_z w64 (to_z w16 (of_z w16 x))) ≡ x = omega (arith, ints) in
-    row_more es i (to_z w64 (of_z w64 (to_z w16 (of_z w16 x)))) (omega arith) q (on c.args.page.now) (on c.loop-value.page) (on c.put-number.new.self) (on c.push.new.self) c.loop-value.invariant c.put-number.ensures c.push.ensures
+    row_more es i (to_z w64 (of_z w64 (to_z w16 (of_z w16 x)))) (omega arith) q (on c.args.page.now) (on c.loop-value.page) (on c.put_number.new.self) (on c.push.new.self) c.loop-value.invariant c.put_number.ensures c.push.ensures
 
 pub returns : goal.returns
 returns c =

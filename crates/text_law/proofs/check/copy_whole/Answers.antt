@@ -7,11 +7,11 @@ use Rattle.text_law.proofs.check.copy_whole.Goals as goal
 pub returns-in-Ok : goal.returns-in-Ok
 returns-in-Ok c =
     let s = c.args.text.now in
-    let row = c.copy-text.new.out in
+    let row = c.copy_text.new.out in
     let before = c.deref-mut.result.now in
     let h = c.in-Ok.ensures in
     let l : length before ≡ length s = ap length c.deref-mut.ensures.value ∙ c.requires in
-    let k : length row ≡ length before = c.copy-text.auto.out in
+    let k : length row ≡ length before = c.copy_text.auto.out in
     record { copies = take_at row _ _ (k ∙ c.deref-mut.ensures.len) ∙ copied_whole (reading s) s before row _ l h.answer h.row; law = h.law }
 
 pub returns-in-Err : goal.returns-in-Err

@@ -5,9 +5,9 @@ use Rattle.text_law.proofs.copy.read_table.Goals as goal
 
 pub returns : goal.returns
 returns c =
-    let e = c.read-text.ensures in
+    let e = c.read_text.ensures in
     record {
-      answer = answered (held c.args.sheet.now) (held c.read-text.new.sheet) c.args.text.now c.read-text.result e.fault e.after;
+      answer = answered (held c.args.sheet.now) (held c.read_text.new.sheet) c.args.text.now c.read_text.result e.fault e.after;
       after = e.after;
       stays = e.stays;
       law = text_law;

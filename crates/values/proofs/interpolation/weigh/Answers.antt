@@ -3,8 +3,8 @@ use Rattle.std.proofs.lemmas.Int.{ints}
 use Rattle.values.proofs.Sizes.{weighed}
 use Rattle.values.proofs.interpolation.weigh.Goals as goal
 
-pub overflow-mul-result : goal.overflow-mul-result
-overflow-mul-result g c =
+pub overflow_mul-result : goal.overflow_mul-result
+overflow_mul-result g c =
     let x : to_z w64 (of_z w64 c.args.value) ≡ c.args.value = omega (arith, ints) in
     let y : to_z w64 c.args.weight ≡ pos c.args.weight = omega (arith, ints) in
     let n = weighed c.args.value g.row.LIMIT c.args.weight c.requires.value in

@@ -12,10 +12,10 @@ near_of s row column v h e = subst (λ (z : ℤ). Within 32767 z) (sym e) (value
 
 pub returns-in-Screw : goal.returns-in-Screw
 returns-in-Screw c =
-    let e : to_z w64 (of_z w64 c.screw-value.result) ≡ value (begun c.args.sheet.now) c.args.row c.args.column = search rules in
+    let e : to_z w64 (of_z w64 c.screw_value.result) ≡ value (begun c.args.sheet.now) c.args.row c.args.column = search rules in
     record { value = e; near = near_of c.args.sheet.now c.args.row c.args.column _ c.requires e }
 
 pub returns-in-Plane : goal.returns-in-Plane
 returns-in-Plane c =
-    let e : to_z w64 (of_z w64 c.plane-value.result) ≡ value (begun c.args.sheet.now) c.args.row c.args.column = search rules in
+    let e : to_z w64 (of_z w64 c.plane_value.result) ≡ value (begun c.args.sheet.now) c.args.row c.args.column = search rules in
     record { value = e; near = near_of c.args.sheet.now c.args.row c.args.column _ c.requires e }

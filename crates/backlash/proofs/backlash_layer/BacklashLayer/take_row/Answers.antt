@@ -7,9 +7,9 @@ pub returns : goal.returns
 returns g c =
     let m = g.S.Source.means c.args.self.now.below in
     let row = c.args.row.now in
-    let none = fits_of ((m []).refusal row) c.in-ok-advance.ensures.answer in
+    let none = fits_of ((m []).refusal row) c.in_ok-advance.ensures.answer in
     record {
-      answer = c.in-ok-advance.ensures.answer;
+      answer = c.in_ok-advance.ensures.answer;
       next = standing_next c.args.self.now.backlash c.args.self.now.stand c.moved-stand.result m (g.S.Source.means c.advance.new.self) row
-          (g.met.S.Source.lawful c.args.self.now.below) none c.in-ok-advance.ensures.next c.moved-stand.ensures.value;
+          (g.met.S.Source.lawful c.args.self.now.below) none c.in_ok-advance.ensures.next c.moved-stand.ensures.value;
     }

@@ -7,13 +7,13 @@ use Rattle.banks.specs.BankProofs.{placed_near}
 use Rattle.banks.specs.Walking.{named_ok, bad_here, good_more, good_all, overlaid_more, overlaid_all}
 use Rattle.banks.proofs.bank.Bank.move_axes.Goals as goal
 
-pub returns-in-err-axes : goal.returns-in-err-axes
-returns-in-err-axes c =
-    let p = err_from_is_err_and c.from-residual.result c.from-residual.ensures.1 in
+pub returns-in_err-axes : goal.returns-in_err-axes
+returns-in_err-axes c =
+    let p = err_from_is_err_and c.from_residual.result c.from_residual.ensures.1 in
     let bank = c.args.self.now in
     let row = c.args.row.now in
     let i = c.loop-axis.axis in
-    let said = ap (named i) (sym c.read.ensures) ∙ sym c.name.ensures ∙ c.in-err-axes.was ∙ ap Err (sym p.2) in
+    let said = ap (named i) (sym c.read.ensures) ∙ sym c.name.ensures ∙ c.in_err-axes.was ∙ ap Err (sym p.2) in
     rw p.1 (record {
       value = bad_here (row_bad bank.gauge bank.jump bank.axes) row i 0 (moved bank.gauge (axis_at bank.axes i) (get_or row i 0)) p.0 (placed bank.gauge bank.axes row)
           c.loop-axis-test.true said c.loop-axis.invariant.1;
@@ -25,8 +25,8 @@ loop-axis-preserved c =
     let bank = c.args.self.now in
     let row = c.args.row.now in
     let i = c.loop-axis.axis in
-    let next = c.in-ok-axes.field-0 in
-    let said = ap (named i) (sym c.read.ensures) ∙ sym c.name.ensures ∙ c.in-ok-axes.was in
+    let next = c.in_ok-axes.field-0 in
+    let said = ap (named i) (sym c.read.ensures) ∙ sym c.name.ensures ∙ c.in_ok-axes.was in
     let good = named_ok i (row_bad bank.gauge bank.jump bank.axes i (get_or row i 0)) (moved bank.gauge (axis_at bank.axes i) (get_or row i 0)) next said in
     let eight : length c.args.self.now.axes ≡ 8 = search rules in
     let lt : c.loop-axis.axis < length c.args.row.now = c.loop-axis-test.true in

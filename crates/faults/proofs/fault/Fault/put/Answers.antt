@@ -8,13 +8,13 @@ pub returns : goal.returns
 returns c =
     let f = c.args.self.now in
     let o = vec_items c.args.out.now in
-    let a = vec_items c.put-unsigned.new.out in
-    let b = vec_items c.put-named.new.out in
-    let d = vec_items c.put-named-2.new.out in
-    let e = vec_items c.put-part.new.out in
+    let a = vec_items c.put_unsigned.new.out in
+    let b = vec_items c.put_named.new.out in
+    let d = vec_items c.put_named-2.new.out in
+    let e = vec_items c.put_part.new.out in
     let lines = named (codes " line=") f.line in
     let axes = named (codes " axis=") f.axis in
     let tail = codes " from=" ++ (part_name f.part ++ 10 ∷ []) in
     joins o a e (codes "refused=" ++ decimal (number f.refusal)) (lines ++ (axes ++ tail))
-    (c.in-ok-put-unsigned.ensures ∙ ap (λ n. o ++ (codes "refused=" ++ decimal n)) c.number.ensures)
-    (joins a b e lines (axes ++ tail) c.in-ok-put-named.ensures (joins b d e axes tail c.in-ok-put-named-2.ensures c.in-ok-put-part.ensures))
+    (c.in_ok-put_unsigned.ensures ∙ ap (λ n. o ++ (codes "refused=" ++ decimal n)) c.number.ensures)
+    (joins a b e lines (axes ++ tail) c.in_ok-put_named.ensures (joins b d e axes tail c.in_ok-put_named-2.ensures c.in_ok-put_part.ensures))

@@ -14,5 +14,5 @@ returns g c =
     let means = g.S.Source.means in
     let m = mill_of means c.args.self.now in
     let d = done m c.args.row.now c.args.out.now c.drive.new.out (means c.advance.new.self) (means c.drive.new.self.source) (map view c.drive.new.self.inner.records)
-    c.requires c.in-ok-advance.ensures.answer c.advance.ensures.next (ap means c.drive.ensures.source) c.drive.ensures.motors c.drive.ensures.row in
-    record { answer = c.in-ok-advance.ensures.answer; next = d.next; row = d.written }
+    c.requires c.in_ok-advance.ensures.answer c.advance.ensures.next (ap means c.drive.ensures.source) c.drive.ensures.motors c.drive.ensures.row in
+    record { answer = c.in_ok-advance.ensures.answer; next = d.next; row = d.written }

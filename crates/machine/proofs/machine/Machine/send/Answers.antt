@@ -12,5 +12,5 @@ returns g c =
     let v = get_or vs a fresh in
     let f : SFits w64 t = c.ranges.target in
     let at : c.new.result.at ≡ t = simp to_z-of_z at c.new.ensures ∙ reached t c.requires.near in
-    let new = c.send-to.ensures ∙ ap (λ (z : ℤ). set vs a (sent z v)) at in
+    let new = c.send_to.ensures ∙ ap (λ (z : ℤ). set vs a (sent z v)) at in
     λ i. record { means = g.S.Source.means c.args.self.now.source; motors = new i }

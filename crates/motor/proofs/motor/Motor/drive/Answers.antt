@@ -17,8 +17,8 @@ bound c =
     subst (λ z. nat_abs z ≤ 2 ^ 53 → nat_abs c.filter-output.result ≤ nat_abs z) (to_z-of_z w64 g.settings.output_limit fl) c.filter-output.ensures.bound small in
     subst (λ z. nat_abs z ≤ nat_abs g.settings.output_limit) (sym (to_z-of_z w32 c.filter-output.result fo)) b
 
-pub invariant-of-self : goal.invariant-of-self
-invariant-of-self c = (bound (goal.at.invariant-of-self c).After-filter-output, ((λ h. absurd (true≢false h)), tt))
+pub invariant_of-self : goal.invariant_of-self
+invariant_of-self c = (bound (goal.at.invariant_of-self c).After-filter-output, ((λ h. absurd (true≢false h)), tt))
 
 pub returns : goal.returns
 returns c =

@@ -7,7 +7,7 @@ use Rattle.numerals.proofs.numeral.Numeral.+put_digits.Goals as goal
 pub returns-then-number-ge10 : goal.returns-then-number-ge10
 returns-then-number-ge10 t c =
     let n = c.args.number in
-    then (written c.args.self.now) (written c.put-digits.new.self) (written c.push.new.self) (decimal (n / 10)) ((48 + n % 10) ∷ []) c.put-digits.ensures c.push.ensures
+    then (written c.args.self.now) (written c.put_digits.new.self) (written c.push.new.self) (decimal (n / 10)) ((48 + n % 10) ∷ []) c.put_digits.ensures c.push.ensures
     ∙ ap (λ x. clip (written c.args.self.now ++ x)) (sym (decimal_step n (omega arith) (omega arith)))
 
 pub returns-else-number-ge10 : goal.returns-else-number-ge10

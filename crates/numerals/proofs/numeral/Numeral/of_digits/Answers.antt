@@ -5,4 +5,4 @@ use Rattle.numerals.proofs.numeral.Numeral.of_digits.Goals as goal
 
 pub returns : goal.returns
 returns c =
-    c.put-digits.ensures ∙ ap (λ s. clip (s ++ decimal c.args.number)) c.empty-numeral.ensures ∙ digits_fit c.args.number (omega arith)
+    c.put_digits.ensures ∙ ap (λ s. clip (s ++ decimal c.args.number)) c.empty-numeral.ensures ∙ digits_fit c.args.number (omega arith)

@@ -7,5 +7,5 @@ use Rattle.numerals.proofs.numeral.Numeral.of_negative.Goals as goal
 pub returns : goal.returns
 returns c =
     let n = c.args.number in
-    then (written c.empty-numeral.result) (written c.push.new.self) (written c.put-digits.new.self) (45 ∷ []) (decimal n) c.push.ensures c.put-digits.ensures
+    then (written c.empty-numeral.result) (written c.push.new.self) (written c.put_digits.new.self) (45 ∷ []) (decimal n) c.push.ensures c.put_digits.ensures
     ∙ ap (λ s. clip (s ++ 45 ∷ decimal n)) c.empty-numeral.ensures ∙ minus_fits n (omega arith) ∙ sym (neg_signed n c.requires)

@@ -9,8 +9,8 @@ use Rattle.sheets.proofs.sheet.Sheet.store.Goals as goal
 pub bounds-self-self : goal.bounds-self-self
 bounds-self-self c = let s = c.args.self.now in omega (arith, (enters s c.args.value c.requires).0, few s.heading)
 
-pub invariant-of-self : goal.invariant-of-self
-invariant-of-self c =
+pub invariant_of-self : goal.invariant_of-self
+invariant_of-self c =
     let s = c.args.self.now in
     let v = c.args.value in
     let h = enters s v c.requires in (
