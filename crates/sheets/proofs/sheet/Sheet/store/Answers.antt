@@ -13,16 +13,13 @@ pub invariant_of-self : goal.invariant_of-self
 invariant_of-self c =
     let s = c.args.self.now in
     let v = c.args.value in
-    let h = enters s v c.requires in (
-      length-set s.values s.filled _ ∙ s.sized,
-      (
-        omega (arith, h.0, few s.heading),
-        (
-          ap in_range (stored s.values s.filled v c.ranges.value h.1 (omega (arith, h.0, s.sized, few s.heading))) ∙ range_push (take s.filled s.values) v s.narrow h.1,
-          ((λ e. absurd (omega (arith, h.0, s.whole e))), tt),
-        ),
-      ),
-    )
+    let h = enters s v c.requires in
+    record {
+      sized = length-set s.values s.filled _ ∙ s.sized;
+      few = omega (arith, h.0, few s.heading);
+      narrow = ap in_range (stored s.values s.filled v c.ranges.value h.1 (omega (arith, h.0, s.sized, few s.heading))) ∙ range_push (take s.filled s.values) v s.narrow h.1;
+      whole = λ e. absurd (omega (arith, h.0, s.whole e));
+    }
 
 pub returns : goal.returns
 returns c =
