@@ -30,4 +30,4 @@ returns-in-Err-plane c =
     let f5 : SFits w64 n.row_span = search rules in
     let f6 : SFits w64 n.column_span = search rules in
     let e : Err c.in-Err-plane.fault ≡ plane_heading n.rows n.columns n.row_motor n.column_motor n.target n.row_span n.column_span = simp to_z-of_z at c.in-Err-plane.ensures in
-    ap (λ f. Err f) c.in-text_in-Err-plane.ensures ∙ ap (result_map_both (λ h. h) (in_text 1)) e ∙ plane_read c.args.line.now (n.rows ∷ n.columns ∷ n.row_motor ∷ n.column_motor ∷ n.target ∷ n.row_span ∷ n.column_span ∷ []) c.in_default.ensures c.in-Some-plane_numbers.ensures
+    ap (λ f. Err f) c.in_text-in-Err-plane.ensures ∙ ap (result_map_both (λ h. h) (in_text 1)) e ∙ plane_read c.args.line.now (n.rows ∷ n.columns ∷ n.row_motor ∷ n.column_motor ∷ n.target ∷ n.row_span ∷ n.column_span ∷ []) c.in_default.ensures c.in-Some-plane_numbers.ensures

@@ -68,7 +68,7 @@ returns-in_default-read_whole c =
     let o : held c.cancel-in_default-read_whole.new.self.0 ≡ None = c.cancel-in_default-read_whole.ensures in
     let n = sym c.open-definition.ensures.lends ∙ sym i.0 in
     record {
-      fault = ap (λ f. Some f) (c.in-text_in-default-read_whole.ensures ∙ ap (text_fault WrongForm) k) ∙ sym (ap result_err e);
+      fault = ap (λ f. Some f) (c.in_text-in-default-read_whole.ensures ∙ ap (text_fault WrongForm) k) ∙ sym (ap result_err e);
       after = back c.sheet-in_default-read_whole·1.given.0 c.cancel-in_default-read_whole.new.self.0 _ _ c.sheet-in_default-read_whole·1.given.1 n ∙ o ∙ sym (ap result_ok e);
     }
 
@@ -92,7 +92,7 @@ returns-in-Err-enter c =
     let o : held c.cancel-in-Err-enter.new.self.0 ≡ None = c.cancel-in-Err-enter.ensures in
     let n = sym c.open-definition.ensures.lends ∙ sym i.0 ∙ sym h.lends in
     record {
-      fault = ap (λ f. Some f) (c.in-text_in-Err-enter.ensures ∙ ap (text_fault c.in-Err-enter.fault.refusal) k) ∙ sym (ap result_err e);
+      fault = ap (λ f. Some f) (c.in_text-in-Err-enter.ensures ∙ ap (text_fault c.in-Err-enter.fault.refusal) k) ∙ sym (ap result_err e);
       after = back c.sheet-in-Err-enter·1.given.0 c.cancel-in-Err-enter.new.self.0 _ _ c.sheet-in-Err-enter·1.given.1 n ∙ o ∙ sym (ap result_ok e);
     }
 

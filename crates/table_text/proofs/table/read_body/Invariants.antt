@@ -6,7 +6,7 @@ use Rattle.table_text.proofs.table.read_body.Given as goal
 -- the definition still has the same sheet, which is empty, and what is left of the text leads to the same end
 abbrev pub invariant-loop-line : goal.invariant-loop-line
 invariant-loop-line l =
-    (l.definition.sheet.name ≡ l.initial.definition.sheet.name)
+    (l.definition.sheet.ghost_name ≡ l.initial.definition.sheet.ghost_name)
     × (l.definition.sheet.now.complete ≡ l.initial.definition.sheet.now.complete)
     × (resume (begun l.definition.sheet.now) l.rest ≡ resume (begun l.initial.definition.sheet.now) l.initial.rest)
 

@@ -18,7 +18,7 @@ bound c =
     subst (λ z. nat_abs z ≤ nat_abs g.settings.output_limit) (sym (to_z-of_z w32 c.filter-output.result fo)) b
 
 pub invariant_of-self : goal.invariant_of-self
-invariant_of-self c = (bound (goal.at.invariant_of-self c).After-filter-output, ((λ h. absurd (true≢false h)), tt))
+invariant_of-self c = record { limited = bound (goal.at.invariant_of-self c).After-filter-output; still = λ h. absurd (true≢false h) }
 
 pub returns : goal.returns
 returns c =
