@@ -28,7 +28,7 @@ returns-then-not-is_empty c =
     let n = sym c.open-definition.ensures.lends ∙ sym i.0 in
     record {
       fault = ap (λ f. Some f) (c.in_text-then-not-is_empty.ensures ∙ ap (λ x. text_fault WrongForm (x + 1)) k) ∙ sym (ap result_err e);
-      after = back c.sheet-then-not-is_empty·1.given.0 c.cancel-then-not-is_empty.new.self.0 _ _ c.sheet-then-not-is_empty·1.given.1 n ∙ o ∙ sym (ap result_ok e);
+      after = back c.sheet-then-not-is_empty-1.given.0 c.cancel-then-not-is_empty.new.self.0 _ _ c.sheet-then-not-is_empty-1.given.1 n ∙ o ∙ sym (ap result_ok e);
     }
 
 pub returns-then-is_close : goal.returns-then-is_close
@@ -49,7 +49,7 @@ returns-then-is_close c =
     let z = closed c.close.result t None c.close.ensures.fault q in
     record {
       fault = z.0 ∙ sym (ap result_err e);
-      after = back c.sheet-then-is_close·1.given.0 c.close.new.self.0 _ _ c.sheet-then-is_close·1.given.1 n ∙ c.close.ensures.after ∙ z.1 ∙ sym (ap result_ok e);
+      after = back c.sheet-then-is_close-1.given.0 c.close.new.self.0 _ _ c.sheet-then-is_close-1.given.1 n ∙ c.close.ensures.after ∙ z.1 ∙ sym (ap result_ok e);
     }
 
 pub returns-in_default-read_whole : goal.returns-in_default-read_whole
@@ -68,8 +68,8 @@ returns-in_default-read_whole c =
     let o : held c.cancel-in_default-read_whole.new.self.0 ≡ None = c.cancel-in_default-read_whole.ensures in
     let n = sym c.open-definition.ensures.lends ∙ sym i.0 in
     record {
-      fault = ap (λ f. Some f) (c.in_text-in-default-read_whole.ensures ∙ ap (text_fault WrongForm) k) ∙ sym (ap result_err e);
-      after = back c.sheet-in_default-read_whole·1.given.0 c.cancel-in_default-read_whole.new.self.0 _ _ c.sheet-in_default-read_whole·1.given.1 n ∙ o ∙ sym (ap result_ok e);
+      fault = ap (λ f. Some f) (c.in_text-in_default-read_whole.ensures ∙ ap (text_fault WrongForm) k) ∙ sym (ap result_err e);
+      after = back c.sheet-in_default-read_whole-1.given.0 c.cancel-in_default-read_whole.new.self.0 _ _ c.sheet-in_default-read_whole-1.given.1 n ∙ o ∙ sym (ap result_ok e);
     }
 
 pub returns-in-Err-enter : goal.returns-in-Err-enter
@@ -93,7 +93,7 @@ returns-in-Err-enter c =
     let n = sym c.open-definition.ensures.lends ∙ sym i.0 ∙ sym h.lends in
     record {
       fault = ap (λ f. Some f) (c.in_text-in-Err-enter.ensures ∙ ap (text_fault c.in-Err-enter.fault.refusal) k) ∙ sym (ap result_err e);
-      after = back c.sheet-in-Err-enter·1.given.0 c.cancel-in-Err-enter.new.self.0 _ _ c.sheet-in-Err-enter·1.given.1 n ∙ o ∙ sym (ap result_ok e);
+      after = back c.sheet-in-Err-enter-1.given.0 c.cancel-in-Err-enter.new.self.0 _ _ c.sheet-in-Err-enter-1.given.1 n ∙ o ∙ sym (ap result_ok e);
     }
 
 pub loop-line-preserved : goal.loop-line-preserved
