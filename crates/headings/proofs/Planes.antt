@@ -1,4 +1,4 @@
-use Rattle.std.proofs.Common.{◌≡◌, ℕ, Bool, true, false, cond, ◌&&◌, ℤ, nat_abs, Ok, Err, Result, sym, refl, ap, ◌∙◌, w64, SFits, to_z, of_z}
+use Rattle.std.proofs.Common.{◌≡◌, ℕ, Bool, true, false, cond, ◌&&◌, ℤ, nat_abs, Ok, Err, Result, sym, ap, ◌∙◌, w64, SFits, to_z, of_z}
 use Rattle.std.specs.Result.{result_map_both}
 use Rattle.std.proofs.lemmas.Int.{to_z-of_z}
 use Rattle.std.proofs.lemmas.Bool.{and_left, and_right}
@@ -6,7 +6,7 @@ use Rattle.headings.specs.declared.heading.Heading.{Heading}
 use Rattle.faults.specs.declared.fault.Fault.{Fault}
 use Rattle.faults.specs.declared.fault.Refusal.TheVariants.{OutOfRange}
 use Rattle.headings.specs.Heads.{sheet_fault}
-use Rattle.headings.specs.Heads.{Head, plane, head_of, within, plane_fits, plane_heading}
+use Rattle.headings.specs.Heads.{plane, head_of, within, plane_fits, plane_heading}
 
 pub passed : (high : ℕ) (z : ℤ) (b : Bool) → SFits w64 z → within high (to_z w64 (of_z w64 z)) ≡ b → within high z ≡ b
 passed high z b f e = ap (within high) (sym (to_z-of_z w64 z f)) ∙ e

@@ -1,8 +1,8 @@
-use Rattle.std.proofs.Common.{◌≡◌, ℕ, suc, ◌+◌, ◌<◌, ◌≤◌, Bool, true, false, cond, ◌&&◌, eqb, List, [], ◌∷◌, ◌++◌, length, get_or, take, drop, ℤ, pos, negsuc, nat_abs, decimal, sym, refl, ap, ◌∙◌, arith}
+use Rattle.std.proofs.Common.{◌≡◌, ℕ, suc, ◌+◌, ◌<◌, true, false, cond, eqb, List, [], ◌∷◌, ◌++◌, length, get_or, take, drop, ℤ, pos, negsuc, nat_abs, decimal, sym, refl, ap, ◌∙◌, arith}
 use Rattle.std.specs.Fmt.{signed_decimal}
 use Rattle.std.specs.Char.{is_ascii_digit}
 use Rattle.std.specs.Str.{all_ascii_digits}
-use Rattle.std.specs.List.{AllByRecursion as All}
+use Rattle.std.specs.List.{AllByRecursion}
 use Rattle.std.proofs.lemmas.List.{take-append-drop, drop_more}
 use Rattle.std.proofs.lemmas.Bool.{and_parts, eqb-true}
 use Rattle.std.proofs.lemmas.Fmt.{digits_decimal}
@@ -31,7 +31,7 @@ same_is (x ∷ xs) (y ∷ ys) h = let p = and_parts (eqb x y) (same xs ys) h in 
 
 -- no line end in a line
 abbrev pub Flat : List ℕ → Type 0
-Flat l = All (λ c. eqb c 10 ≡ false) l
+Flat l = AllByRecursion (λ c. eqb c 10 ≡ false) l
 
 pub cut_line : (l s : List ℕ) → Flat l → cut (l ++ 10 ∷ s) ≡ record { lines = l ∷ (cut s).lines; left = (cut s).left }
 cut_line [] s f = refl
@@ -39,7 +39,7 @@ cut_line (c ∷ cs) s f =
     ap (λ b. cond b (record { lines = [] ∷ (cut (cs ++ 10 ∷ s)).lines; left = (cut (cs ++ 10 ∷ s)).left }) (onto c (cut (cs ++ 10 ∷ s)).lines (cut (cs ++ 10 ∷ s)).left)) f.0
     ∙ ap (λ (x : Cut). onto c x.lines x.left) (cut_line cs s f.1)
 
-pub cut_lines : (ls : List (List ℕ)) → All Flat ls → cut (joined_lines ls []) ≡ record { lines = ls; left = [] }
+pub cut_lines : (ls : List (List ℕ)) → AllByRecursion Flat ls → cut (joined_lines ls []) ≡ record { lines = ls; left = [] }
 cut_lines [] f = refl
 cut_lines (l ∷ ls) f =
     cut_line l (joined_lines ls []) f.0 ∙ ap (λ (x : Cut). record { lines = l ∷ x.lines; left = x.left }) (cut_lines ls f.1)

@@ -1,8 +1,7 @@
-use Rattle.std.proofs.Common.{◌≡◌, ℕ, Bool, true, false, cond, eqb, List, [], ◌∷◌, ◌++◌, drop, ℤ, Some, None, Option, sym, refl, ap, ◌∙◌, arith, Bor, MatchOption}
+use Rattle.std.proofs.Common.{◌≡◌, ℕ, true, false, cond, eqb, List, [], ◌∷◌, ◌++◌, drop, ℤ, Some, None, Option, sym, refl, ap, ◌∙◌, arith, Bor, MatchOption}
 use Rattle.std.specs.Option.{option_map}
 use Rattle.std.proofs.lemmas.Bool.{eqb-true, eq-eqb}
-use Rattle.numerals.specs.Numbers.{read_number}
-use Rattle.lines.specs.Fields.{strip, read_field}
+use Rattle.lines.specs.Fields.{strip}
 
 pub strip_back : (p rest : List ℕ) → strip p (p ++ rest) ≡ Some rest
 strip_back [] rest = refl

@@ -1,6 +1,5 @@
 -- Numbers within a line.
-use Rattle.std.specs.Prelude.{ℕ, cond, List, [], ◌∷◌, ◌++◌, length, drop, ℤ, Some, None, Option, ◌==◌}
-use Rattle.std.specs.Fmt.{signed_decimal}
+use Rattle.std.specs.Prelude.{ℕ, cond, List, [], ◌∷◌, length, drop, ℤ, Some, None, Option, ◌==◌}
 use Rattle.numerals.specs.Numbers.{read_number}
 
 -- what follows p in a text that begins with it

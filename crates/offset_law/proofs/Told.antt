@@ -1,6 +1,6 @@
 -- Each reported offset is the table's value at the reported position.
 use Rattle.std.proofs.Common.{◌≡◌, ℕ, zero, suc, ◌+◌, ◌≤◌, Bool, true, false, cond, eqb, ltb, List, [], ◌∷◌, length, take, drop, ℤ, pos, ◌+ℤ◌, Some, None, Ok, Err, Option, Result, sym, refl, ap, ◌∙◌, subst, arith, lit≤}
-use Rattle.std.specs.List.{AllByRecursion as All}
+use Rattle.std.specs.List.{AllByRecursion}
 use Rattle.std.proofs.lemmas.Int.{ints}
 use Rattle.std.proofs.lemmas.Bool.{ltb-true, eq-eqb}
 use Rattle.banks.specs.Axes.{AllNear, axis_at}
@@ -98,7 +98,7 @@ corrects t p v w = record { limit = w; half = value_half t p p v; points = λ on
 told_seen : (t : Table) (b : Meaning) (k : ℕ) → Valid t → Standing t b → Told t (seen_at k (table_put (Some t) b []))
 told_seen t b k v h = subst (Told t) (sym (shown t b k h)) (corrects t ((b []).bare 0) v (h.single.lawful.bare [] 0))
 
-told_end : (t : Table) (k : ℕ) (left : List ℕ) → All (Told t) (unended k left)
+told_end : (t : Table) (k : ℕ) (left : List ℕ) → AllByRecursion (Told t) (unended k left)
 told_end t k [] = tt
 told_end t k (c ∷ cs) = (tt, tt)
 
@@ -106,12 +106,12 @@ told_offered : (t : Table) (b : Meaning) (k : ℕ) (o : Option Fault) → Valid 
 told_offered t b k None v h = told_seen t b k v h
 told_offered t b k (Some f) v h = tt
 
-pub told_follow : (t : Table) (b : Meaning) (k : ℕ) (ls : List (List ℕ)) (left : List ℕ) → Valid t → Standing t b → All (Told t) (follow (table_put (Some t) b) k ls left)
+pub told_follow : (t : Table) (b : Meaning) (k : ℕ) (ls : List (List ℕ)) (left : List ℕ) → Valid t → Standing t b → AllByRecursion (Told t) (follow (table_put (Some t) b) k ls left)
 told_follow t b k [] left v h = told_end t k left
 told_follow t b k (l ∷ ls) left v h =
     elim (reading_of l) as (λ r.
     Told t (elim r [ Err q ↦ Refused (text_fault q k) | Ok x ↦ offered_at k ((table_put (Some t) b []).refusal (x ∷ [])) (after (table_put (Some t) b) (x ∷ []) []) ])
-    × All (Told t) (follow (elim r [ Err q ↦ table_put (Some t) b | Ok x ↦ after (table_put (Some t) b) (x ∷ []) ]) (k + 1) ls left)) [
+    × AllByRecursion (Told t) (follow (elim r [ Err q ↦ table_put (Some t) b | Ok x ↦ after (table_put (Some t) b) (x ∷ []) ]) (k + 1) ls left)) [
       | Err q ↦ (tt, told_follow t b (k + 1) ls left v h)
       | Ok x ↦
           let row = x ∷ [] in
@@ -119,15 +119,15 @@ told_follow t b k (l ∷ ls) left v h =
           let on = stands_on ((b []).refusal row) t b row h in
           let e = table_after (Some t) b row h.single.lawful in (
             subst (λ (m : Meaning). Told t (offered_at k ((table_put (Some t) b []).refusal (x ∷ [])) (m []))) e (told_offered t (after b (x ∷ [])) k ((b []).refusal (x ∷ [])) v on),
-            subst (λ (m : Meaning). All (Told t) (follow m (k + 1) ls left)) e (told_follow t (after b (x ∷ [])) (k + 1) ls left v on),
+            subst (λ (m : Meaning). AllByRecursion (Told t) (follow m (k + 1) ls left)) e (told_follow t (after b (x ∷ [])) (k + 1) ls left v on),
           )
     ]
 
-told_fitted : (o : Option Fault) (t : Table) (m : Meaning) (k : ℕ) (ls : List (List ℕ)) (left : List ℕ) → sheet_fit (Some t) (m []) ≡ o → Valid t → Single m → All (Told t) (fitted t m k ls left o)
+told_fitted : (o : Option Fault) (t : Table) (m : Meaning) (k : ℕ) (ls : List (List ℕ)) (left : List ℕ) → sheet_fit (Some t) (m []) ≡ o → Valid t → Single m → AllByRecursion (Told t) (fitted t m k ls left o)
 told_fitted (Some f) t m k ls left e v h = (tt, tt)
 told_fitted None t m k ls left e v h = let on : Standing t m = record { single = h; fit = e } in (told_seen t m k v on, told_follow t m (k + 1) ls left v on)
 
-none_far : (held : List Axis) → All (λ a. a.position ≡ pos 0) held → AllNear held
+none_far : (held : List Axis) → AllByRecursion (λ a. a.position ≡ pos 0) held → AllNear held
 none_far [] h i = (omega (arith, ints), omega (arith, ints))
 none_far (a ∷ held) h zero = subst (Within 1099511627776) (sym h.0) (omega (arith, ints), omega (arith, ints))
 none_far (a ∷ held) h (suc i) = none_far held h.1 i
@@ -140,16 +140,16 @@ bank_single x = record {
 }
 
 -- the bank that a line sets up, or not
-told_started : (t : Table) (k : ℕ) (ls : List (List ℕ)) (left : List ℕ) (r : Result ℕ Refusal) → Valid t → All (Told t) (start t (k + 1) ls left) → All (Told t) (either t k ls left (started_by k r))
+told_started : (t : Table) (k : ℕ) (ls : List (List ℕ)) (left : List ℕ) (r : Result ℕ Refusal) → Valid t → AllByRecursion (Told t) (start t (k + 1) ls left) → AllByRecursion (Told t) (either t k ls left (started_by k r))
 told_started t k ls left (Err q) v rest = (tt, rest)
 told_started t k ls left (Ok x) v rest =
-    elim (set_up_refusal Encoder (x ∷ []) (pos 8388607)) as (λ o. All (Told t) (either t k ls left (elim o [ None ↦ Ok (bank_means Encoder 1 8388607 (started Encoder (x ∷ []))) | Some f ↦ Err (at_line k f) ]))) [
+    elim (set_up_refusal Encoder (x ∷ []) (pos 8388607)) as (λ o. AllByRecursion (Told t) (either t k ls left (elim o [ None ↦ Ok (bank_means Encoder 1 8388607 (started Encoder (x ∷ []))) | Some f ↦ Err (at_line k f) ]))) [
       | None ↦ told_fitted (sheet_fit (Some t) (bank_means Encoder 1 8388607 (started Encoder (x ∷ [])) [])) t (bank_means Encoder 1 8388607 (started Encoder (x ∷ []))) k ls left refl v (bank_single x)
       | Some f ↦ (tt, rest)
     ]
 
 -- every line behind a table
-told_lines : (t : Table) (k : ℕ) (ls : List (List ℕ)) (left : List ℕ) → Valid t → All (Told t) (start t k ls left)
+told_lines : (t : Table) (k : ℕ) (ls : List (List ℕ)) (left : List ℕ) → Valid t → AllByRecursion (Told t) (start t k ls left)
 told_lines t k [] left v = told_end t k left
 told_lines t k (l ∷ ls) left v = told_started t k ls left (reading_of l) v (told_lines t (k + 1) ls left v)
 
@@ -157,4 +157,4 @@ pub offsets_correct : OffsetsCorrect
 offsets_correct s t e =
     let rest = drop (table_length s) s in
     let v = (law_only (take (table_length s) s) t e).0 in
-    subst (λ (r : Result Table Fault). All (Told t) (after_table r (drop (table_length s) s))) (sym e) (told_lines t (length t.entries + 3) (cut rest).lines (cut rest).left v)
+    subst (λ (r : Result Table Fault). AllByRecursion (Told t) (after_table r (drop (table_length s) s))) (sym e) (told_lines t (length t.entries + 3) (cut rest).lines (cut rest).left v)

@@ -1,6 +1,6 @@
 -- The laws of what `offsets` reports, in the words of tables and positions.
 use Rattle.std.specs.Prelude.{◌≡◌, ℕ, zero, suc, ◌+◌, List, [], ◌∷◌, map, length, take, ℤ, pos, ◌-ℤ◌, ◌*ℤ◌, Some, Ok, Option}
-use Rattle.std.specs.List.{AllByRecursion as All}
+use Rattle.std.specs.List.{AllByRecursion}
 use Rattle.offset_report.specs.Inputs.{table_length}
 use Rattle.offset_report.specs.Offsets.{reports}
 use Rattle.offset_report.specs.Readings.{follow}
@@ -24,7 +24,7 @@ Told t (Refused f) = Unit {0}
 
 -- every report of an input whose table text is read as t
 abbrev pub OffsetsCorrect : Type 0
-OffsetsCorrect = (s : List ℕ) (t : Table) → reading (take (table_length s) s) ≡ Ok t → All (Told t) (reports s)
+OffsetsCorrect = (s : List ℕ) (t : Table) → reading (take (table_length s) s) ≡ Ok t → AllByRecursion (Told t) (reports s)
 
 -- the line that a report names
 abbrev pub line_of : Report → Option ℕ

@@ -1,7 +1,6 @@
 -- The laws of rounding, from those of the floor.
-use Rattle.std.proofs.Common.{◌≡◌, ℕ, suc, ◌+◌, ◌-◌, ◌*◌, ◌<◌, ◌≤◌, ℤ, pos, negsuc, ◌+ℤ◌, ◌-ℤ◌, ◌*ℤ◌, neg_ℤ, ◌≤ℤ◌, ◌<ℤ◌, sym, refl, ap, ◌∙◌, arith}
+use Rattle.std.proofs.Common.{ℕ, ◌*◌, ◌<◌, ℤ, pos, negsuc, ◌+ℤ◌, ◌*ℤ◌, ◌≤ℤ◌, arith}
 use Rattle.std.proofs.lemmas.Int.{ints, by_lt_z}
-use Rattle.std.specs.Int.{int_div_euclid, int_rem_euclid}
 use Rattle.rounding.specs.Round.{rounded, Floor, Remainders, RoundsToNearest, RoundsWholeExactly, RoundsWithinBounds, RoundsInOrder, RoundsAlongShifts, RoundingLaws}
 use Rattle.rounding.proofs.Floors.{floor_is, rem_is, rem_more, floor_one, scale_lt, spread}
 

@@ -1,13 +1,12 @@
-use Rattle.std.proofs.Common.{◌≡◌, ℕ, ◌+◌, ◌-◌, ◌<◌, ◌≤◌, true, false, cond, leb, List, [], ◌∷◌, ◌++◌, length, take, set, ℤ, nat_abs, Some, None, Option, refl, ◌∙◌, arith, w16, w64, SFits, to_z, of_z}
+use Rattle.std.proofs.Common.{◌≡◌, ℕ, ◌+◌, ◌<◌, ◌≤◌, true, false, cond, leb, List, [], ◌∷◌, ◌++◌, length, take, set, ℤ, nat_abs, Some, None, Option, refl, ◌∙◌, arith, w16, w64, SFits, to_z, of_z}
 use Rattle.std.proofs.lemmas.Int.{ints}
 use Rattle.std.proofs.lemmas.List.{length-take, take_more_set}
 use Rattle.std.proofs.lemmas.Bool.{le-leb, leb-true, leb-false, and_parts, and_from}
 use Rattle.faults.specs.declared.fault.Refusal.{Refusal}
 use Rattle.faults.specs.declared.fault.Refusal.TheVariants.{OutOfRange, TooManyEntries}
 use Rattle.sheets.specs.declared.sheet.Sheet.{Sheet}
-use Rattle.headings.specs.Heads.{Head, head_of, capacity, in_range}
-use Rattle.faults.specs.declared.fault.Fault.{Fault}
-use Rattle.sheets.specs.Tables.{Table, begun, entry_refusal}
+use Rattle.headings.specs.Heads.{head_of, capacity, in_range}
+use Rattle.sheets.specs.Tables.{begun, entry_refusal}
 
 -- as many entries as are counted
 pub counts : (s : Sheet) → length (take s.filled s.values) ≡ s.filled

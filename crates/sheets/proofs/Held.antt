@@ -1,6 +1,6 @@
 -- What a sheet holds is a table that there is.
 use Rattle.std.proofs.Common.{◌≡◌, ℕ, ◌≤◌, true, false, cond, leb, List, [], ◌∷◌, take, ℤ, pos, nat_abs, Some, None, Option, refl, ap, ◌∙◌, subst, arith}
-use Rattle.std.specs.List.{AllByRecursion as All}
+use Rattle.std.specs.List.{AllByRecursion}
 use Rattle.std.proofs.lemmas.Bool.{and_parts, and_from, le-leb, leb-true}
 use Rattle.headings.specs.declared.heading.Heading.{Heading}
 use Rattle.headings.specs.declared.heading.Heading.TheVariants.{Screw, Plane}
@@ -20,7 +20,7 @@ fits_of (Plane h) =
     (and_from _ _ (inside 8 h.row_motor h.by_row) (and_from _ _ (inside 8 h.column_motor h.by_column)
     (and_from _ _ (inside 8 h.target h.targeted) (and_from _ _ (inside 262144 h.row_span h.row_spanned) (inside 262144 h.column_span h.column_spanned))))))
 
-pub all_of : (es : List ℤ) → in_range es ≡ true → All (λ z. nat_abs z ≤ 32767) es
+pub all_of : (es : List ℤ) → in_range es ≡ true → AllByRecursion (λ z. nat_abs z ≤ 32767) es
 all_of [] h = tt
 all_of (z ∷ es) h = let p = and_parts (leb (nat_abs z) 32767) (in_range es) h in (leb-true (nat_abs z) 32767 p.0, all_of es p.1)
 

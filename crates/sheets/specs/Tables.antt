@@ -3,7 +3,7 @@ use Rattle.std.specs.Prelude.{◌≡◌, ◌≤◌, Bool, true, cond, List, [], 
 use Rattle.faults.specs.declared.fault.Refusal.{Refusal}
 use Rattle.faults.specs.declared.fault.Refusal.TheVariants.{OutOfRange, TooManyEntries, Incomplete}
 use Rattle.sheets.specs.declared.sheet.Sheet.{Sheet}
-use Rattle.std.specs.List.{AllByRecursion as All}
+use Rattle.std.specs.List.{AllByRecursion}
 use Rattle.headings.specs.Heads.{Head, screw, plane, head_of, capacity, screw_fits, plane_fits}
 
 -- a table, complete or begun: its heading, and the entries so far
@@ -20,7 +20,7 @@ head_fits (plane r c s u t a b) = plane_fits (pos r) (pos c) (pos s) (pos u) (po
 pub record Valid (t : Table) : Type 0 where
   pub heading : head_fits t.head ≡ true
   pub complete : length t.entries ≡ capacity t.head
-  pub range : All (λ z. unsigned_abs z ≤ 32767) t.entries
+  pub range : AllByRecursion (λ z. unsigned_abs z ≤ 32767) t.entries
 
 -- the table begun in a sheet: its heading, and the entries that are in
 abbrev pub begun : Sheet → Table

@@ -1,6 +1,6 @@
 //! A sheet's definition: opened, filled entry by entry, and closed or cancelled.
 ghost use Rattle.std.specs.Prelude.{◌≡◌, ◌≤◌, length, is_ok, if◌then◌else◌, Some, None};
-ghost use Rattle.std.specs.Option.{option_map as mappedSome};
+ghost use Rattle.std.specs.Option.{option_map};
 ghost use Rattle.std.specs.Result.{result_err};
 ghost use Rattle.headings.specs.Heads.{sheet_fault, head_of};
 ghost use Rattle.sheets.specs.Tables.{begun, held, fresh, push, entry_refusal, close_refusal};
@@ -72,7 +72,7 @@ impl Definition<'_> {
     /// Takes one more entry, or says why not, and then nothing changes.
     pub fn enter(&mut self, value: i64) -> Result<(), Fault>
         ensures lends { self.new.sheet.ghost_name ≡ self.old.sheet.ghost_name }
-        ensures fault { result_err result ≡ mappedSome sheet_fault (entry_refusal (begun self.old.sheet.now) value) }
+        ensures fault { result_err result ≡ option_map sheet_fault (entry_refusal (begun self.old.sheet.now) value) }
         ensures stays { self.new.sheet.now.complete ≡ self.old.sheet.now.complete }
         ensures after { begun self.new.sheet.now ≡ (if is_ok result then push (begun self.old.sheet.now) value else begun self.old.sheet.now) }
     {
@@ -93,7 +93,7 @@ impl Definition<'_> {
 
     /// Whether a closing would be accepted now.
     pub fn check(&self) -> Result<(), Fault>
-        ensures { result_err result ≡ mappedSome sheet_fault (close_refusal (begun self.now.sheet.now)) }
+        ensures { result_err result ≡ option_map sheet_fault (close_refusal (begun self.now.sheet.now)) }
     {
         match self.sheet.close_refusal() {
             Some(refusal) => Err(Fault::of(Part::Sheet, refusal)),
@@ -111,7 +111,7 @@ impl Definition<'_> {
 
     /// Ends the definition: the sheet holds the table if all entries are in, and is empty if not.
     pub fn close(self) -> Result<(), Fault>
-        ensures fault { result_err result ≡ mappedSome sheet_fault (close_refusal (begun self.entry.sheet.now)) }
+        ensures fault { result_err result ≡ option_map sheet_fault (close_refusal (begun self.entry.sheet.now)) }
         ensures after { held self.exit.0.now ≡ (if is_ok result then Some (begun self.entry.sheet.now) else None) }
     {
         let Definition { sheet } = self;

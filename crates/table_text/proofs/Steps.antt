@@ -1,10 +1,10 @@
-use Rattle.std.proofs.Common.{◌≡◌, ℕ, ◌+◌, Bool, true, false, cond, eqb, List, [], ◌∷◌, ◌++◌, length, ℤ, is_ok, Some, None, Ok, Err, Option, Result, sym, refl, ap, ◌∙◌, arith}
+use Rattle.std.proofs.Common.{◌≡◌, ℕ, ◌+◌, true, false, cond, eqb, List, [], ◌∷◌, length, ℤ, is_ok, Some, None, Ok, Err, Option, Result, refl, ap, ◌∙◌, arith}
 use Rattle.std.specs.Option.{option_map}
 use Rattle.std.specs.Result.{result_err}
 use Rattle.std.proofs.lemmas.List.{length_push}
 use Rattle.numerals.specs.Numbers.{read_whole}
-use Rattle.lines.specs.Lines.{Cut, onto, cut, CLOSE, same}
-use Rattle.lines.proofs.Cuts.{same_is, not_same}
+use Rattle.lines.specs.Lines.{Cut, onto, cut, CLOSE}
+use Rattle.lines.proofs.Cuts.{not_same}
 use Rattle.faults.specs.declared.fault.Fault.{Fault}
 use Rattle.faults.specs.declared.fault.Refusal.{Refusal}
 use Rattle.faults.specs.declared.fault.Refusal.TheVariants.{WrongForm, Incomplete}

@@ -1,6 +1,6 @@
 //! A heading line, read.
 ghost use Rattle.std.specs.Prelude.{◌≡◌, [], ◌∷◌};
-ghost use Rattle.std.specs.Option.{option_map as mappedSome};
+ghost use Rattle.std.specs.Option.{option_map};
 ghost use Rattle.std.specs.Result.{result_map_both};
 ghost use Rattle.lines.specs.Fields.{read_fields};
 ghost use Rattle.headings.specs.Heads.{head_of};
@@ -20,7 +20,7 @@ struct ScrewNumbers {
 }
 
 fn screw_numbers(line: &[u8]) -> Option<ScrewNumbers>
-    ensures { mappedSome (λ n. n.entries ∷ n.source ∷ n.target ∷ n.span ∷ []) result ≡ read_fields screw_leads line.now }
+    ensures { option_map (λ n. n.entries ∷ n.source ∷ n.target ∷ n.span ∷ []) result ≡ read_fields screw_leads line.now }
 {
     let Some((entries, rest)) = field(line, b"DEFINE COMP ") else {
         return None;
@@ -58,7 +58,7 @@ struct PlaneNumbers {
 }
 
 fn plane_numbers(line: &[u8]) -> Option<PlaneNumbers>
-    ensures { mappedSome (λ n. n.rows ∷ n.columns ∷ n.row_motor ∷ n.column_motor ∷ n.target ∷ n.row_span ∷ n.column_span ∷ []) result ≡ read_fields plane_leads line.now }
+    ensures { option_map (λ n. n.rows ∷ n.columns ∷ n.row_motor ∷ n.column_motor ∷ n.target ∷ n.row_span ∷ n.column_span ∷ []) result ≡ read_fields plane_leads line.now }
 {
     let Some((rows, rest)) = field(line, b"DEFINE COMP ") else {
         return None;

@@ -1,7 +1,7 @@
 -- A table's text has room on a page.
 use Rattle.std.proofs.Common.{ℕ, ◌+◌, ◌*◌, ◌<◌, ◌≤◌, List, [], ◌∷◌, ◌++◌, map, length, take, ℤ, pos, negsuc, nat_abs, codes, decimal, ap, arith}
 use Rattle.std.specs.Fmt.{signed_decimal}
-use Rattle.std.specs.List.{AllByRecursion as All}
+use Rattle.std.specs.List.{AllByRecursion}
 use Rattle.std.proofs.lemmas.Fmt.{length-decimal-le, length_signed_le}
 use Rattle.std.proofs.lemmas.List.{length-append}
 use Rattle.lines.specs.Lines.{CLOSE, joined_lines}
@@ -19,7 +19,7 @@ pub entry_length : (z : ℤ) → nat_abs z ≤ 32767 → length (signed_decimal 
 entry_length (pos n) h = length_signed_le 5 (pos n) (omega arith) (omega arith)
 entry_length (negsuc n) h = length_signed_le 5 (negsuc n) (omega arith) (omega arith)
 
-pub rows_length : (es : List ℤ) → All (λ z. nat_abs z ≤ 32767) es → length (joined_lines (map signed_decimal es) []) ≤ 7 * length es
+pub rows_length : (es : List ℤ) → AllByRecursion (λ z. nat_abs z ≤ 32767) es → length (joined_lines (map signed_decimal es) []) ≤ 7 * length es
 rows_length [] a = omega arith
 rows_length (z ∷ es) a = omega (arith, length-append (signed_decimal z) (10 ∷ joined_lines (map signed_decimal es) []), entry_length z a.0, rows_length es a.1)
 

@@ -1,7 +1,7 @@
 -- The lines after the heading and the entries determine each other.
 use Rattle.std.proofs.Common.{◌≡◌, ℕ, ◌+◌, ◌≤◌, true, false, cond, eqb, leb, List, [], ◌∷◌, ◌++◌, map, length, ℤ, pos, nat_abs, Some, None, Ok, Err, codes, decimal, Option, Result, sym, refl, ap, ◌∙◌, subst, append_assoc, append-nil, arith}
 use Rattle.std.specs.Fmt.{signed_decimal}
-use Rattle.std.specs.List.{AllByRecursion as All}
+use Rattle.std.specs.List.{AllByRecursion}
 use Rattle.std.proofs.lemmas.List.{map_push, length-append}
 use Rattle.std.proofs.ByRecursion.{All-append}
 use Rattle.std.proofs.lemmas.Bool.{eqb-true, eq-eqb, leb-true, le-leb, lt-leb}
@@ -48,7 +48,7 @@ pub record Read (t u : Table) (ls : List (List ℕ)) (left : List ℕ) : Type 0 
   pub same_lines : map signed_decimal t.entries ++ ls ≡ map signed_decimal u.entries ++ CLOSE ∷ []
   pub nothing : left ≡ []
   pub full : length u.entries ≡ capacity u.head
-  pub narrow : All Narrow t.entries → All Narrow u.entries
+  pub narrow : AllByRecursion Narrow t.entries → AllByRecursion Narrow u.entries
 
 abbrev pub after_close : Table → ℕ → List (List ℕ) → List ℕ → Option Refusal → Result Table Fault
 after_close t k ls left o = elim o [ None ↦ ended t k ls left | Some r ↦ Err (text_fault r k) ]
@@ -71,7 +71,7 @@ body_only t u k (l ∷ ls) left h₀ =
               same_lines = ap (λ x. map signed_decimal t.entries ++ x ∷ ls) (same_is l CLOSE q) ∙ ap (λ x. map signed_decimal t.entries ++ CLOSE ∷ x) p.0 ∙ ap (λ (x : Table). map signed_decimal x.entries ++ CLOSE ∷ []) e;
               nothing = p.1;
               full = subst (λ (x : Table). length x.entries ≡ capacity x.head) e (close_ok t f);
-              narrow = λ a. subst (λ (x : Table). All Narrow x.entries) e a;
+              narrow = λ a. subst (λ (x : Table). AllByRecursion Narrow x.entries) e a;
             })
         | Some r ↦ (λ f h. no cc)
       ] refl)
@@ -96,7 +96,7 @@ body_only t u k (l ∷ ls) left h₀ =
 
 -- no line end stands in a line of a table
 
-pub flat_written : (ps : List (List ℕ)) (zs : List ℤ) → All Flat ps → All Small zs → Flat (written ps zs)
+pub flat_written : (ps : List (List ℕ)) (zs : List ℤ) → AllByRecursion Flat ps → AllByRecursion Small zs → Flat (written ps zs)
 flat_written [] zs f h = tt
 flat_written (p ∷ ps) [] f h = f.0
 flat_written (p ∷ ps) (z ∷ zs) f h =
@@ -111,7 +111,7 @@ flat_heading (plane r c s u t a b) q =
     subst Flat (ap (λ x. codes "DEFINE COMP " ++ (decimal r ++ (codes "." ++ (decimal c ++ (codes ",#" ++ (decimal s ++ (codes ",#" ++ (decimal u ++ (codes ",#" ++ (decimal t ++ (codes "," ++ (decimal a ++ (codes "," ++ x))))))))))))) (append-nil (decimal b)))
     (flat_written plane_leads (pos r ∷ pos c ∷ pos s ∷ pos u ∷ pos t ∷ pos a ∷ pos b ∷ []) ((refl, (refl, (refl, (refl, (refl, (refl, (refl, (refl, (refl, (refl, (refl, (refl, tt)))))))))))), ((refl, tt), ((refl, (refl, tt)), ((refl, (refl, tt)), ((refl, (refl, tt)), ((refl, tt), ((refl, tt), tt))))))) (plane_small r c s u t a b q))
 
-pub flat_entries : (es : List ℤ) → All Narrow es → All Flat (map signed_decimal es ++ CLOSE ∷ [])
+pub flat_entries : (es : List ℤ) → AllByRecursion Narrow es → AllByRecursion Flat (map signed_decimal es ++ CLOSE ∷ [])
 flat_entries [] r = ((refl, (refl, (refl, (refl, (refl, tt))))), tt)
 flat_entries (z ∷ es) r = (flat_signed z (omega (arith, r.0)), flat_entries es r.1)
 
@@ -120,7 +120,7 @@ not_close z h =
     elim (same (signed_decimal z) CLOSE) as (λ b. same (signed_decimal z) CLOSE ≡ b → b ≡ false)
     [ true ↦ (λ q. let e : None ≡ Some z = ap read_whole (sym (same_is (signed_decimal z) CLOSE q)) ∙ back_whole z (omega arith) in no cc) | false ↦ (λ q. refl) ] refl
 
-pub body_back : (t : Table) (k : ℕ) (es : List ℤ) → length t.entries + length es ≡ capacity t.head → All Narrow es
+pub body_back : (t : Table) (k : ℕ) (es : List ℤ) → length t.entries + length es ≡ capacity t.head → AllByRecursion Narrow es
     → read_body t k (map signed_decimal es ++ CLOSE ∷ []) [] ≡ Ok (record { head = t.head; entries = t.entries ++ es })
 body_back t k [] e r =
     ap (λ b. after_close t k [] [] (cond b None (Some Incomplete))) (eq-eqb (length t.entries) (capacity t.head) (omega arith))

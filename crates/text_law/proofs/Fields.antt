@@ -2,7 +2,7 @@
 use Rattle.std.proofs.Common.{◌≡◌, ℕ, ◌<◌, true, false, cond, eqb, List, [], ◌∷◌, ◌++◌, length, get_or, drop, ℤ, nat_abs, Some, None, Option, sym, refl, ap, ◌∙◌, subst, arith}
 use Rattle.std.specs.Char.{is_ascii_digit}
 use Rattle.std.specs.Fmt.{signed_decimal}
-use Rattle.std.specs.List.{AllByRecursion as All}
+use Rattle.std.specs.List.{AllByRecursion}
 use Rattle.std.proofs.lemmas.List.{drop_at}
 use Rattle.std.proofs.lemmas.Bool.{eqb-true}
 use Rattle.numerals.specs.Numbers.{read_number}
@@ -54,7 +54,7 @@ fields_length (p ∷ ps) s zs e =
       ] refl
     ] e
 
-pub fields_only : (ps : List (List ℕ)) (s : List ℕ) (zs : List ℤ) → read_fields ps s ≡ Some zs → All Small zs → s ≡ written ps zs
+pub fields_only : (ps : List (List ℕ)) (s : List ℕ) (zs : List ℤ) → read_fields ps s ≡ Some zs → AllByRecursion Small zs → s ≡ written ps zs
 fields_only [] s zs e h =
     elim (eqb (length s) 0) as (λ b. eqb (length s) 0 ≡ b → ◌≡◌ {A = Option (List ℤ)} (cond b (Some []) None) (Some zs) → s ≡ [])
     [ true ↦ (λ q f. none_left s q) | false ↦ (λ q f. no cc) ] refl e
@@ -65,7 +65,7 @@ fields_only (p ∷ ps) s zs e h =
         | None ↦ (λ q f. no cc)
         | Some ys ↦ (λ q f.
             let v : x.0 ∷ ys ≡ zs = ap (λ o. elim o [ None ↦ x.0 ∷ ys | Some y ↦ y ]) f in
-            let k : All Small (x.0 ∷ ys) = subst (All Small) (sym v) h in
+            let k : AllByRecursion Small (x.0 ∷ ys) = subst (AllByRecursion Small) (sym v) h in
             field_only p s x g k.0 ∙ ap (λ t. p ++ (signed_decimal x.0 ++ t)) (fields_only ps x.1 ys q k.1) ∙ ap (written (p ∷ ps)) v)
       ] refl)
     ] refl e
@@ -75,7 +75,7 @@ abbrev pub Apart : List ℕ → Type 0
 Apart [] = ⊥
 Apart (c ∷ cs) = is_ascii_digit c ≡ false
 
-pub starts : (ps : List (List ℕ)) (zs : List ℤ) → All Apart ps → is_ascii_digit (get_or (written ps zs) 0 0) ≡ false
+pub starts : (ps : List (List ℕ)) (zs : List ℤ) → AllByRecursion Apart ps → is_ascii_digit (get_or (written ps zs) 0 0) ≡ false
 starts [] zs a = refl
 starts ([] ∷ ps) zs a = absurd a.0
 starts ((c ∷ cs) ∷ ps) [] a = a.0
@@ -92,7 +92,7 @@ field_back p rest z h a =
 abbrev pub after_field : List (List ℕ) → Option (ℤ × List ℕ) → Option (List ℤ)
 after_field ps o = elim o [ None ↦ None | Some x ↦ elim (read_fields ps x.1) [ None ↦ None | Some ys ↦ Some (x.0 ∷ ys) ] ]
 
-pub fields_back : (ps : List (List ℕ)) (zs : List ℤ) → All Apart ps → All Small zs → length zs ≡ length ps → read_fields ps (written ps zs) ≡ Some zs
+pub fields_back : (ps : List (List ℕ)) (zs : List ℤ) → AllByRecursion Apart ps → AllByRecursion Small zs → length zs ≡ length ps → read_fields ps (written ps zs) ≡ Some zs
 fields_back [] [] a h l = refl
 fields_back [] (z ∷ zs) a h l = absurd (omega arith)
 fields_back (p ∷ ps) [] a h l = absurd (omega arith)

@@ -1,7 +1,7 @@
 -- A heading line and its heading determine each other.
 use Rattle.std.proofs.Common.{◌≡◌, ℕ, ◌<◌, ◌≤◌, true, false, cond, ◌&&◌, leb, List, [], ◌∷◌, ◌++◌, length, ℤ, pos, negsuc, nat_abs, Some, None, Ok, Err, codes, decimal, Option, Result, sym, refl, ap, ◌∙◌, subst, append-nil, arith}
 use Rattle.std.specs.Result.{result_map_both}
-use Rattle.std.specs.List.{AllByRecursion as All}
+use Rattle.std.specs.List.{AllByRecursion}
 use Rattle.std.proofs.lemmas.Bool.{and_parts, and_from, leb-true}
 use Rattle.faults.specs.declared.fault.Fault.{Fault}
 use Rattle.faults.specs.declared.fault.Refusal.TheVariants.{WrongForm, OutOfRange}
@@ -44,13 +44,13 @@ screw_only s z h e =
           let v : z ≡ pos (nat_abs (at z 0)) ∷ pos (nat_abs (at z 1)) ∷ pos (nat_abs (at z 2)) ∷ pos (nat_abs (at z 3)) ∷ [] = four z l ∙ ap (λ x. x ∷ at z 1 ∷ at z 2 ∷ at z 3 ∷ []) w0.0 ∙ ap (λ x. pos (nat_abs (at z 0)) ∷ x ∷ at z 2 ∷ at z 3 ∷ []) w1.0 ∙ ap (λ x. pos (nat_abs (at z 0)) ∷ pos (nat_abs (at z 1)) ∷ x ∷ at z 3 ∷ []) w2.0 ∙ ap (λ x. pos (nat_abs (at z 0)) ∷ pos (nat_abs (at z 1)) ∷ pos (nat_abs (at z 2)) ∷ x ∷ []) w3.0 in
           let g : screw (nat_abs (at z 0)) (nat_abs (at z 1)) (nat_abs (at z 2)) (nat_abs (at z 3)) ≡ h = ap (λ r. elim r [ Ok y ↦ y | Err y ↦ h ]) f in
           let k : head_fits (screw (nat_abs (at z 0)) (nat_abs (at z 1)) (nat_abs (at z 2)) (nat_abs (at z 3))) ≡ true = and_from _ _ w0.2 (and_from _ _ w1.2 (and_from _ _ w2.2 w3.2)) in
-          let sm : All Small (pos (nat_abs (at z 0)) ∷ pos (nat_abs (at z 1)) ∷ pos (nat_abs (at z 2)) ∷ pos (nat_abs (at z 3)) ∷ []) = (omega (arith, w0.1), (omega (arith, w1.1), (omega (arith, w2.1), (omega (arith, w3.1), tt)))) in
-          let t : s ≡ heading_line (screw (nat_abs (at z 0)) (nat_abs (at z 1)) (nat_abs (at z 2)) (nat_abs (at z 3))) = fields_only screw_leads s z e (subst (All Small) (sym v) sm) ∙ ap (written screw_leads) v ∙ ap (λ t. (codes "DEFINE COMP " ++ (decimal (nat_abs (at z 0)) ++ (codes ",#" ++ (decimal (nat_abs (at z 1)) ++ (codes ",#" ++ (decimal (nat_abs (at z 2)) ++ (codes "," ++ t)))))))) (append-nil (decimal (nat_abs (at z 3)))) in
+          let sm : AllByRecursion Small (pos (nat_abs (at z 0)) ∷ pos (nat_abs (at z 1)) ∷ pos (nat_abs (at z 2)) ∷ pos (nat_abs (at z 3)) ∷ []) = (omega (arith, w0.1), (omega (arith, w1.1), (omega (arith, w2.1), (omega (arith, w3.1), tt)))) in
+          let t : s ≡ heading_line (screw (nat_abs (at z 0)) (nat_abs (at z 1)) (nat_abs (at z 2)) (nat_abs (at z 3))) = fields_only screw_leads s z e (subst (AllByRecursion Small) (sym v) sm) ∙ ap (written screw_leads) v ∙ ap (λ t. (codes "DEFINE COMP " ++ (decimal (nat_abs (at z 0)) ++ (codes ",#" ++ (decimal (nat_abs (at z 1)) ++ (codes ",#" ++ (decimal (nat_abs (at z 2)) ++ (codes "," ++ t)))))))) (append-nil (decimal (nat_abs (at z 3)))) in
           (ap head_fits (sym g) ∙ k, t ∙ ap heading_line g))
       | false ↦ (λ q f. no cc)
     ] refl
 
-pub screw_small : (n s t c : ℕ) → head_fits (screw n s t c) ≡ true → All Small (pos n ∷ pos s ∷ pos t ∷ pos c ∷ [])
+pub screw_small : (n s t c : ℕ) → head_fits (screw n s t c) ≡ true → AllByRecursion Small (pos n ∷ pos s ∷ pos t ∷ pos c ∷ [])
 screw_small n s t c q =
     let p0 = and_parts (within 256 (pos n)) (within 8 (pos s) && (within 8 (pos t) && within 16777216 (pos c))) (q) in
     let p1 = and_parts (within 8 (pos s)) (within 8 (pos t) && within 16777216 (pos c)) p0.1 in
@@ -96,13 +96,13 @@ plane_only s z h e =
           let v : z ≡ pos (nat_abs (at z 0)) ∷ pos (nat_abs (at z 1)) ∷ pos (nat_abs (at z 2)) ∷ pos (nat_abs (at z 3)) ∷ pos (nat_abs (at z 4)) ∷ pos (nat_abs (at z 5)) ∷ pos (nat_abs (at z 6)) ∷ [] = seven z l ∙ ap (λ x. x ∷ at z 1 ∷ at z 2 ∷ at z 3 ∷ at z 4 ∷ at z 5 ∷ at z 6 ∷ []) w0.0 ∙ ap (λ x. pos (nat_abs (at z 0)) ∷ x ∷ at z 2 ∷ at z 3 ∷ at z 4 ∷ at z 5 ∷ at z 6 ∷ []) w1.0 ∙ ap (λ x. pos (nat_abs (at z 0)) ∷ pos (nat_abs (at z 1)) ∷ x ∷ at z 3 ∷ at z 4 ∷ at z 5 ∷ at z 6 ∷ []) w2.0 ∙ ap (λ x. pos (nat_abs (at z 0)) ∷ pos (nat_abs (at z 1)) ∷ pos (nat_abs (at z 2)) ∷ x ∷ at z 4 ∷ at z 5 ∷ at z 6 ∷ []) w3.0 ∙ ap (λ x. pos (nat_abs (at z 0)) ∷ pos (nat_abs (at z 1)) ∷ pos (nat_abs (at z 2)) ∷ pos (nat_abs (at z 3)) ∷ x ∷ at z 5 ∷ at z 6 ∷ []) w4.0 ∙ ap (λ x. pos (nat_abs (at z 0)) ∷ pos (nat_abs (at z 1)) ∷ pos (nat_abs (at z 2)) ∷ pos (nat_abs (at z 3)) ∷ pos (nat_abs (at z 4)) ∷ x ∷ at z 6 ∷ []) w5.0 ∙ ap (λ x. pos (nat_abs (at z 0)) ∷ pos (nat_abs (at z 1)) ∷ pos (nat_abs (at z 2)) ∷ pos (nat_abs (at z 3)) ∷ pos (nat_abs (at z 4)) ∷ pos (nat_abs (at z 5)) ∷ x ∷ []) w6.0 in
           let g : plane (nat_abs (at z 0)) (nat_abs (at z 1)) (nat_abs (at z 2)) (nat_abs (at z 3)) (nat_abs (at z 4)) (nat_abs (at z 5)) (nat_abs (at z 6)) ≡ h = ap (λ r. elim r [ Ok y ↦ y | Err y ↦ h ]) f in
           let k : head_fits (plane (nat_abs (at z 0)) (nat_abs (at z 1)) (nat_abs (at z 2)) (nat_abs (at z 3)) (nat_abs (at z 4)) (nat_abs (at z 5)) (nat_abs (at z 6))) ≡ true = and_from _ _ w0.2 (and_from _ _ w1.2 (and_from _ _ w2.2 (and_from _ _ w3.2 (and_from _ _ w4.2 (and_from _ _ w5.2 w6.2))))) in
-          let sm : All Small (pos (nat_abs (at z 0)) ∷ pos (nat_abs (at z 1)) ∷ pos (nat_abs (at z 2)) ∷ pos (nat_abs (at z 3)) ∷ pos (nat_abs (at z 4)) ∷ pos (nat_abs (at z 5)) ∷ pos (nat_abs (at z 6)) ∷ []) = (omega (arith, w0.1), (omega (arith, w1.1), (omega (arith, w2.1), (omega (arith, w3.1), (omega (arith, w4.1), (omega (arith, w5.1), (omega (arith, w6.1), tt))))))) in
-          let t : s ≡ heading_line (plane (nat_abs (at z 0)) (nat_abs (at z 1)) (nat_abs (at z 2)) (nat_abs (at z 3)) (nat_abs (at z 4)) (nat_abs (at z 5)) (nat_abs (at z 6))) = fields_only plane_leads s z e (subst (All Small) (sym v) sm) ∙ ap (written plane_leads) v ∙ ap (λ t. (codes "DEFINE COMP " ++ (decimal (nat_abs (at z 0)) ++ (codes "." ++ (decimal (nat_abs (at z 1)) ++ (codes ",#" ++ (decimal (nat_abs (at z 2)) ++ (codes ",#" ++ (decimal (nat_abs (at z 3)) ++ (codes ",#" ++ (decimal (nat_abs (at z 4)) ++ (codes "," ++ (decimal (nat_abs (at z 5)) ++ (codes "," ++ t)))))))))))))) (append-nil (decimal (nat_abs (at z 6)))) in
+          let sm : AllByRecursion Small (pos (nat_abs (at z 0)) ∷ pos (nat_abs (at z 1)) ∷ pos (nat_abs (at z 2)) ∷ pos (nat_abs (at z 3)) ∷ pos (nat_abs (at z 4)) ∷ pos (nat_abs (at z 5)) ∷ pos (nat_abs (at z 6)) ∷ []) = (omega (arith, w0.1), (omega (arith, w1.1), (omega (arith, w2.1), (omega (arith, w3.1), (omega (arith, w4.1), (omega (arith, w5.1), (omega (arith, w6.1), tt))))))) in
+          let t : s ≡ heading_line (plane (nat_abs (at z 0)) (nat_abs (at z 1)) (nat_abs (at z 2)) (nat_abs (at z 3)) (nat_abs (at z 4)) (nat_abs (at z 5)) (nat_abs (at z 6))) = fields_only plane_leads s z e (subst (AllByRecursion Small) (sym v) sm) ∙ ap (written plane_leads) v ∙ ap (λ t. (codes "DEFINE COMP " ++ (decimal (nat_abs (at z 0)) ++ (codes "." ++ (decimal (nat_abs (at z 1)) ++ (codes ",#" ++ (decimal (nat_abs (at z 2)) ++ (codes ",#" ++ (decimal (nat_abs (at z 3)) ++ (codes ",#" ++ (decimal (nat_abs (at z 4)) ++ (codes "," ++ (decimal (nat_abs (at z 5)) ++ (codes "," ++ t)))))))))))))) (append-nil (decimal (nat_abs (at z 6)))) in
           (ap head_fits (sym g) ∙ k, t ∙ ap heading_line g))
       | false ↦ (λ q f. no cc)
     ] refl
 
-pub plane_small : (r c s u t a b : ℕ) → head_fits (plane r c s u t a b) ≡ true → All Small (pos r ∷ pos c ∷ pos s ∷ pos u ∷ pos t ∷ pos a ∷ pos b ∷ [])
+pub plane_small : (r c s u t a b : ℕ) → head_fits (plane r c s u t a b) ≡ true → AllByRecursion Small (pos r ∷ pos c ∷ pos s ∷ pos u ∷ pos t ∷ pos a ∷ pos b ∷ [])
 plane_small r c s u t a b q =
     let p0 = and_parts (within 16 (pos r)) (within 16 (pos c) && (within 8 (pos s) && (within 8 (pos u) && (within 8 (pos t) && (within 262144 (pos a) && within 262144 (pos b)))))) (q) in
     let p1 = and_parts (within 16 (pos c)) (within 8 (pos s) && (within 8 (pos u) && (within 8 (pos t) && (within 262144 (pos a) && within 262144 (pos b))))) p0.1 in

@@ -1,6 +1,6 @@
 -- A value is not larger than the largest entry.
 use Rattle.std.proofs.Common.{◌≡◌, ℕ, ◌+◌, ◌-◌, ◌*◌, ◌≤◌, true, List, get_or, ℤ, pos, ◌*ℤ◌, neg_ℤ, nat_abs, ◌≤ℤ◌, mul_comm, arith}
-use Rattle.std.specs.List.{AllByRecursion as All}
+use Rattle.std.specs.List.{AllByRecursion}
 use Rattle.std.proofs.lemmas.Nat.{mod_below}
 use Rattle.std.proofs.lemmas.Int.{ints}
 use Rattle.rounding.specs.Bounds.{Within}
@@ -18,7 +18,7 @@ part_below : (n l : ℕ) (p : ℤ) → 1 ≤ l → part n l p ≤ l
 part_below n l p h = omega (arith, mod_below (phase l p * n) l h)
 
 -- the exact value lies between the bounds, times the denominator
-exact_bounds : (h : Head) (vs : List ℤ) (p q : ℤ) (n : ℕ) → head_fits h ≡ true → All (λ z. nat_abs z ≤ n) vs
+exact_bounds : (h : Head) (vs : List ℤ) (p q : ℤ) (n : ℕ) → head_fits h ≡ true → AllByRecursion (λ z. nat_abs z ≤ n) vs
     → ((pos (head_denominator h) *ℤ neg_ℤ (pos n)) ≤ℤ head_numerator h vs p q) × (head_numerator h vs p q ≤ℤ (pos (head_denominator h) *ℤ pos n))
 exact_bounds (screw m s t c) vs p q n f e =
     let l = 16 * c in

@@ -1,6 +1,6 @@
 -- The laws of a table's value, over every table that there is and every position.
 use Rattle.std.specs.Prelude.{◌≡◌, ℕ, ◌*◌, ◌≤◌, ℤ, pos, ◌+ℤ◌, ◌-ℤ◌, ◌*ℤ◌, unsigned_abs}
-use Rattle.std.specs.List.{AllByRecursion as All}
+use Rattle.std.specs.List.{AllByRecursion}
 use Rattle.rounding.specs.Bounds.{Within}
 use Rattle.headings.specs.Heads.{Head, screw, plane}
 use Rattle.sheets.specs.Tables.{Table, Valid}
@@ -35,7 +35,7 @@ ValueRepeats = (t : Table) (p q k m : ℤ) → Valid t → Spans t k m → (nume
 
 -- no value is larger than the largest entry
 abbrev pub ValueBounded : Type 0
-ValueBounded = (t : Table) (p q : ℤ) (n : ℕ) → Valid t → All (λ z. unsigned_abs z ≤ n) t.entries → Within n (value t p q)
+ValueBounded = (t : Table) (p q : ℤ) (n : ℕ) → Valid t → AllByRecursion (λ z. unsigned_abs z ≤ n) t.entries → Within n (value t p q)
 
 pub record ValueLaws : Type 0 where
   pub half : ValueHalf

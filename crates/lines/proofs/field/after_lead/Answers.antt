@@ -1,4 +1,3 @@
-use Rattle.std.proofs.Common.{◌≡◌}
 use Rattle.std.proofs.lemmas.Slice.Eq.{strip_prefix_is}
 use Rattle.lines.proofs.Heads.{stripped}
 use Rattle.lines.proofs.field.after_lead.Goals as goal

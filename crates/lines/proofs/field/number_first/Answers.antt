@@ -1,4 +1,4 @@
-use Rattle.std.proofs.Common.{◌≡◌, ℕ, ◌-◌, List, length, take, drop, ℤ, Some, Option, ap, ◌∙◌, w64, SFits, rules}
+use Rattle.std.proofs.Common.{ℕ, ◌-◌, List, length, take, drop, ℤ, Some, Option, ap, ◌∙◌, w64, SFits, rules}
 use Rattle.std.proofs.lemmas.List.{take_rest}
 use Rattle.std.proofs.lemmas.Int.{to_z-of_z}
 use Rattle.lines.proofs.Heads.{number_then}

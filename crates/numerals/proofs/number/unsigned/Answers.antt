@@ -1,5 +1,5 @@
-use Rattle.std.proofs.Common.{◌≡◌, ◌<◌, length, get_or, drop, sym, refl, ap, ◌∙◌, arith}
-use Rattle.numerals.specs.Numbers.{front, worth, plain}
+use Rattle.std.proofs.Common.{◌<◌, length, drop, sym, ◌∙◌, arith}
+use Rattle.numerals.specs.Numbers.{front}
 use Rattle.numerals.proofs.NumberLaws.{first_at, plain_led, plain_good}
 use Rattle.numerals.proofs.number.unsigned.Goals as goal
 use Rattle.numerals.proofs.number.unsigned.Goals.{else-text-at-eq48-via-then-text-at-eq48+else-run-at-2, else-text-at-eq48-via-else-text-at-eq48}

@@ -1,4 +1,4 @@
-use Rattle.std.proofs.Common.{◌≡◌, [], ◌∷◌, Ok, Err, sym, refl, ap, ◌∙◌, w64, SFits, to_z, of_z, rules}
+use Rattle.std.proofs.Common.{◌≡◌, [], ◌∷◌, Ok, Err, ap, ◌∙◌, w64, SFits, rules}
 use Rattle.std.specs.Result.{result_map_both}
 use Rattle.std.proofs.lemmas.Int.{to_z-of_z}
 use Rattle.headings.specs.Heads.{head_of, plane_heading}

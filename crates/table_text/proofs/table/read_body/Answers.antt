@@ -1,14 +1,14 @@
-use Rattle.std.proofs.Common.{◌≡◌, ℕ, ◌+◌, false, cond, length, is_ok, Some, None, Ok, Err, sym, refl, ap, ◌∙◌, arith, w64, SFits, to_z, of_z, rules}
+use Rattle.std.proofs.Common.{◌≡◌, ◌+◌, Some, None, sym, ap, ◌∙◌, w64, SFits, to_z, of_z, rules}
 use Rattle.std.specs.Result.{result_err, result_ok}
 use Rattle.std.proofs.lemmas.Int.{to_z-of_z}
 use Rattle.std.proofs.lemmas.Bool.{both_ways, eqb-true, eqb-false}
 use Rattle.lines.specs.Lines.{cut}
-use Rattle.faults.specs.declared.fault.Refusal.TheVariants.{WrongForm, Incomplete}
+use Rattle.faults.specs.declared.fault.Refusal.TheVariants.{WrongForm}
 use Rattle.faults.specs.Faults.{text_fault}
 use Rattle.headings.specs.Heads.{head_of}
-use Rattle.sheets.specs.Tables.{Table, begun, held, fresh, push, entry_refusal, close_refusal}
+use Rattle.sheets.specs.Tables.{begun, held, fresh, push, entry_refusal, close_refusal}
 use Rattle.table_text.specs.TableTexts.{read_body}
-use Rattle.table_text.proofs.Steps.{next, resume, refused_by, accepted_by, at_close, at_more, at_end, at_other, at_refused, at_entry, at_none, at_part, empty, not_held, back, closed}
+use Rattle.table_text.proofs.Steps.{next, resume, refused_by, accepted_by, at_more, at_end, at_other, at_refused, at_entry, empty, back, closed}
 use Rattle.table_text.proofs.table.read_body.Goals as goal
 
 pub returns-then-not-is_empty : goal.returns-then-not-is_empty

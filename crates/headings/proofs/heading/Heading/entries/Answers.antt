@@ -1,4 +1,4 @@
-use Rattle.std.proofs.Common.{◌≡◌, sym, refl, ap, ◌∙◌, arith}
+use Rattle.std.proofs.Common.{sym, ap, arith}
 use Rattle.headings.specs.Heads.{head_of, capacity}
 use Rattle.headings.proofs.Capacities.{room}
 use Rattle.headings.proofs.heading.Heading.entries.Goals as goal

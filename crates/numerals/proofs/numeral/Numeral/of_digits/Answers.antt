@@ -1,4 +1,4 @@
-use Rattle.std.proofs.Common.{◌≡◌, ◌++◌, decimal, ap, ◌∙◌, arith}
+use Rattle.std.proofs.Common.{◌++◌, decimal, ap, ◌∙◌, arith}
 use Rattle.numerals.specs.Numerals.{clip}
 use Rattle.numerals.proofs.NumeralLaws.{digits_fit}
 use Rattle.numerals.proofs.numeral.Numeral.of_digits.Goals as goal

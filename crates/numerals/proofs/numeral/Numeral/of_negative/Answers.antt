@@ -1,4 +1,4 @@
-use Rattle.std.proofs.Common.{◌≡◌, [], ◌∷◌, ◌++◌, decimal, sym, ap, ◌∙◌, arith}
+use Rattle.std.proofs.Common.{[], ◌∷◌, ◌++◌, decimal, sym, ap, ◌∙◌, arith}
 use Rattle.numerals.specs.Numerals.{written, clip}
 use Rattle.numerals.proofs.NumberLaws.{neg_signed}
 use Rattle.numerals.proofs.NumeralLaws.{then, minus_fits}

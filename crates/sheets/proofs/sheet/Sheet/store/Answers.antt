@@ -2,7 +2,6 @@ use Rattle.std.proofs.Common.{take, refl, ap, ◌∙◌, arith}
 use Rattle.std.proofs.lemmas.List.{length-set}
 use Rattle.headings.specs.Heads.{head_of, in_range}
 use Rattle.headings.proofs.Capacities.{few}
-use Rattle.sheets.specs.Tables.{Table}
 use Rattle.sheets.proofs.Facts.{enters, stored, range_push}
 use Rattle.sheets.proofs.sheet.Sheet.store.Goals as goal
 
