@@ -1,11 +1,10 @@
 -- What every layer keeps.
-use Rattle.std.specs.Prelude.{◌≡◌, ℕ, ◌+◌, ◌*◌, ◌<◌, ◌≤◌, Bool, true, false, cond, List, [], ◌∷◌, ℤ, pos, ◌+ℤ◌, neg_ℤ, ◌≤ℤ◌, IfOk, Some, None, Ok, Err, Option, Result, ◌==◌, nat_lt, refl}
-use Rattle.std.proofs.Common.{sym, ◌∙◌, ap, arith}
+use Rattle.std.specs.Prelude.{◌≡◌, ℕ, ◌+◌, ◌*◌, ◌<◌, ◌≤◌, Bool, true, false, cond, [], ℤ, pos, ◌+ℤ◌, IfOk, Some, None, Ok, Err, Option, Result, ◌==◌, nat_lt, refl}
+use Rattle.std.proofs.Common.{◌∙◌, ap, arith}
 use Rattle.std.proofs.lemmas.Int.{ints}
-use Rattle.std.proofs.lemmas.Bool.{ltb-true}
 use Rattle.rounding.specs.Bounds.{Within}
 use Rattle.faults.specs.declared.fault.Fault.{Fault}
-use Rattle.source.specs.Meaning.{Seen, Rows, Meaning, Lawful, no_axis, bare_answer, offset_answer, answer_of, past, after, after_of}
+use Rattle.source.specs.Meaning.{Rows, Meaning, Lawful, no_axis, bare_answer, offset_answer, answer_of}
 use Rattle.layers.specs.Below.{then_fit}
 use Rattle.layers.specs.Laid.{count, share, laid}
 

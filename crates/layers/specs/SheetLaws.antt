@@ -1,6 +1,6 @@
 -- A sheet layer keeps what every source keeps.
-use Rattle.std.specs.Prelude.{◌≡◌, ℕ, ◌<◌, Bool, true, false, cond, List, [], ◌∷◌, ℤ, pos, Some, None, Option, nat_lt, refl}
-use Rattle.std.proofs.Common.{sym, ◌∙◌, ap, arith}
+use Rattle.std.specs.Prelude.{◌≡◌, ℕ, ◌<◌, true, List, [], ◌∷◌, Some, None, Option, nat_lt, refl}
+use Rattle.std.proofs.Common.{ap, arith}
 use Rattle.std.proofs.lemmas.Int.{ints}
 use Rattle.std.proofs.lemmas.Bool.{ltb-true}
 use Rattle.rounding.specs.Bounds.{Within}
@@ -10,7 +10,7 @@ use Rattle.headings.specs.Heads.{Head, row_axis, column_axis, target_axis}
 use Rattle.sheets.specs.declared.sheet.Sheet.{Sheet}
 use Rattle.sheets.specs.Tables.{Table, held}
 use Rattle.sheets.proofs.Held.{held_valid}
-use Rattle.source.specs.Meaning.{Seen, Rows, Meaning, Lawful, past, after, after_of}
+use Rattle.source.specs.Meaning.{Seen, Meaning, Lawful, past, after, after_of}
 use Rattle.values.proofs.Bounded.{value_near}
 use Rattle.layers.specs.Laid.{laid}
 use Rattle.layers.specs.Below.{axis_fit, depth_fit, then_fit}

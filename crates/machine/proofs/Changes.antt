@@ -1,5 +1,5 @@
 -- What a change of one motor's record comes to.
-use Rattle.std.proofs.Common.{◌≡◌, ℕ, ◌≤◌, Bool, true, false, cond, ltb, ℤ, nat_abs, Some, None, Option, sym, refl, ap, ◌∙◌, arith}
+use Rattle.std.proofs.Common.{◌≡◌, ℕ, ◌≤◌, Bool, true, false, cond, ℤ, nat_abs, Some, None, refl, ap, ◌∙◌, arith}
 use Rattle.std.proofs.lemmas.Bool.{cond-false, ltb-false}
 use Rattle.faults.specs.declared.fault.Fault.{Fault}
 use Rattle.servo.specs.declared.settings.GainSettings.{GainSettings}

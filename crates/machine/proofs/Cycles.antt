@@ -1,5 +1,5 @@
 -- A cycle that is accepted.
-use Rattle.std.proofs.Common.{◌≡◌, ℕ, List, [], ◌∷◌, map, length, take, ℤ, Some, None, Ok, Err, Option, Result, sym, refl, ap, ◌∙◌, arith}
+use Rattle.std.proofs.Common.{◌≡◌, ℕ, List, [], ◌∷◌, map, length, take, ℤ, Some, None, Ok, Option, Result, sym, refl, ap, ◌∙◌, arith}
 use Rattle.faults.specs.declared.fault.Fault.{Fault}
 use Rattle.source.specs.Meaning.{Meaning, Lawful, answer_of, row_answer, past, after_of, after}
 use Rattle.motor.specs.Motors.{MotorView}

@@ -1,5 +1,5 @@
 -- Where the motor of an axis is.
-use Rattle.std.proofs.Common.{◌≡◌, ℕ, Bool, true, false, cond, not, ℤ, ◌+ℤ◌, sym, refl, ap, ◌∙◌}
+use Rattle.std.proofs.Common.{◌≡◌, ℕ, Bool, true, false, cond, not, ℤ, ◌+ℤ◌, refl, ap, ◌∙◌}
 use Rattle.source.specs.Meaning.{Seen}
 use Rattle.motor.specs.Motors.{MotorView}
 use Rattle.mill.specs.Mills.{position}

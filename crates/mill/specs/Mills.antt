@@ -1,5 +1,5 @@
 -- A mill as its contracts see it: what its source means, and its eight motors.
-use Rattle.std.specs.Prelude.{ℕ, ◌+◌, cond, List, [], ◌∷◌, map, replicate, ℤ, ◌+ℤ◌, Some, None, Option, nat_lt, slice_index_or, slice_set}
+use Rattle.std.specs.Prelude.{ℕ, ◌+◌, cond, List, [], ◌∷◌, replicate, ℤ, ◌+ℤ◌, Some, None, Option, nat_lt, slice_index_or, slice_set}
 use Rattle.faults.specs.declared.fault.Fault.{Fault}
 use Rattle.faults.specs.declared.fault.Refusal.{Refusal}
 use Rattle.faults.specs.declared.fault.Part.TheVariants.{Machine}

@@ -1,5 +1,5 @@
 -- Marked servo cycles.
-use Rattle.std.specs.Prelude.{ℕ, zero, suc, false, List, [], ◌∷◌, ℤ, pos, negsuc}
+use Rattle.std.specs.Prelude.{ℕ, zero, suc, List, [], ◌∷◌, ℤ, pos, negsuc}
 use Rattle.servo.specs.declared.settings.GainSettings.{GainSettings}
 use Rattle.servo.specs.declared.cause.Cause.TheVariants.{FollowingError, Integrator}
 use Rattle.motor.specs.declared.state.State.{State}

@@ -1,12 +1,11 @@
 -- Each line has its report.
-use Rattle.std.proofs.Common.{◌≡◌, ℕ, zero, suc, ◌+◌, List, [], ◌∷◌, map, length, ℤ, Some, None, Ok, Err, Option, Result, sym, refl, ap, ◌∙◌, zero-add, arith}
+use Rattle.std.proofs.Common.{◌≡◌, ℕ, suc, ◌+◌, List, [], ◌∷◌, map, length, ℤ, Some, None, Ok, Err, Option, Result, sym, refl, ap, ◌∙◌, zero-add, arith}
 use Rattle.faults.specs.Faults.{at_line, text_fault}
 use Rattle.faults.specs.declared.fault.Fault.{Fault}
 use Rattle.faults.specs.declared.fault.Refusal.{Refusal}
 use Rattle.source.specs.Meaning.{Seen, Meaning, bare_answer, offset_answer, after}
 use Rattle.offset_report.specs.Inputs.{reading_of}
-use Rattle.offset_report.specs.Readings.{seen_at, offered_at, line_at, after_line, unended, follow}
-use Rattle.offset_report.specs.declared.report.Report.{Report}
+use Rattle.offset_report.specs.Readings.{seen_at, offered_at, after_line, unended, follow}
 use Rattle.offset_report.specs.declared.report.Report.TheVariants.{Position, Refused}
 use Rattle.offset_law.specs.OffsetLaws.{line_of, numbered, left_over, LinesReported}
 

@@ -1,9 +1,9 @@
 -- Each reported offset is the table's value at the reported position.
-use Rattle.std.proofs.Common.{◌≡◌, ℕ, zero, suc, ◌+◌, ◌≤◌, Bool, true, false, cond, eqb, ltb, List, [], ◌∷◌, length, take, drop, ℤ, pos, ◌+ℤ◌, Some, None, Ok, Err, Option, Result, sym, refl, ap, ◌∙◌, subst, arith, lit≤}
+use Rattle.std.proofs.Common.{◌≡◌, ℕ, zero, suc, ◌+◌, ◌≤◌, Bool, true, cond, eqb, ltb, List, [], ◌∷◌, length, take, drop, ℤ, pos, ◌+ℤ◌, Some, None, Ok, Err, Option, Result, sym, refl, ap, ◌∙◌, subst, arith, lit≤}
 use Rattle.std.specs.List.{AllByRecursion}
 use Rattle.std.proofs.lemmas.Int.{ints}
 use Rattle.std.proofs.lemmas.Bool.{ltb-true, eq-eqb}
-use Rattle.banks.specs.Axes.{AllNear, axis_at}
+use Rattle.banks.specs.Axes.{AllNear}
 use Rattle.banks.specs.Bank.{bank_means, set_up_refusal, started}
 use Rattle.banks.specs.BankProofs.{bank_lawful}
 use Rattle.faults.specs.Faults.{at_line, text_fault}
@@ -11,13 +11,13 @@ use Rattle.faults.specs.declared.fault.Fault.{Fault}
 use Rattle.faults.specs.declared.fault.Refusal.{Refusal}
 use Rattle.gauges.specs.declared.gauge.Axis.{Axis}
 use Rattle.gauges.specs.declared.gauge.Gauge.TheVariants.{Encoder}
-use Rattle.headings.specs.Heads.{Head, row_axis, column_axis, target_axis}
+use Rattle.headings.specs.Heads.{row_axis, column_axis, target_axis}
 use Rattle.layers.specs.Laid.{share}
-use Rattle.layers.specs.SheetLayers.{head_fit, sheet_fit, table_put, value_seen}
-use Rattle.layers.specs.SheetLaws.{Fits, fits, sheet_fit_same, table_after}
+use Rattle.layers.specs.SheetLayers.{sheet_fit, table_put, value_seen}
+use Rattle.layers.specs.SheetLaws.{fits, sheet_fit_same, table_after}
 use Rattle.rounding.specs.Bounds.{Within}
 use Rattle.sheets.specs.Tables.{Table, Valid}
-use Rattle.source.specs.Meaning.{Seen, Rows, Meaning, Lawful, no_axis, past, after, after_of}
+use Rattle.source.specs.Meaning.{Rows, Meaning, Lawful, no_axis, past, after, after_of}
 use Rattle.values.specs.Values.{value}
 use Rattle.values.proofs.Halves.{value_half}
 use Rattle.values.proofs.Points.{value_on_points}
@@ -25,8 +25,7 @@ use Rattle.lines.specs.Lines.{cut}
 use Rattle.text_law.proofs.WholeTexts.{law_only}
 use Rattle.offset_report.specs.Inputs.{table_length, reading_of}
 use Rattle.offset_report.specs.Offsets.{started_by, start, after_table}
-use Rattle.offset_report.specs.Readings.{seen_at, offered_at, line_at, after_line, unended, follow}
-use Rattle.offset_report.specs.declared.report.Report.{Report}
+use Rattle.offset_report.specs.Readings.{seen_at, offered_at, unended, follow}
 use Rattle.offset_report.specs.declared.report.Report.TheVariants.{Position, Refused}
 use Rattle.offset_report.proofs.Starting.{either, fitted}
 use Rattle.offset_law.specs.OffsetLaws.{Corrects, Told, OffsetsCorrect}

@@ -1,5 +1,5 @@
 -- Reading lines, one after another.
-use Rattle.std.proofs.Common.{◌≡◌, ℕ, ◌+◌, List, [], ◌∷◌, ◌++◌, sym, refl, ap, ◌∙◌, append_assoc}
+use Rattle.std.proofs.Common.{◌≡◌, ℕ, ◌+◌, List, [], ◌∷◌, ◌++◌, sym, ap, ◌∙◌, append_assoc}
 use Rattle.lines.specs.Lines.{Cut, cut}
 use Rattle.source.specs.Meaning.{Meaning}
 use Rattle.offset_report.specs.Readings.{line_at, after_line, unended, follow}

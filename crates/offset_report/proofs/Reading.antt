@@ -1,5 +1,5 @@
 -- A table text that is read, or refused.
-use Rattle.std.proofs.Common.{◌≡◌, ℕ, Bool, true, false, cond, List, [], ◌∷◌, ◌++◌, Some, None, Ok, Err, Option, Result, sym, refl, ap, ◌∙◌, append-nil, arith}
+use Rattle.std.proofs.Common.{◌≡◌, ℕ, true, false, cond, List, [], ◌∷◌, ◌++◌, Some, None, Ok, Err, Option, Result, sym, refl, ap, ◌∙◌, append-nil, arith}
 use Rattle.std.specs.Result.{result_err, result_ok}
 use Rattle.faults.specs.FaultLines.{fault_line}
 use Rattle.faults.specs.declared.fault.Fault.{Fault}

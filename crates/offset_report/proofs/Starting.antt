@@ -1,5 +1,5 @@
 -- Reading lines before the bank is set up.
-use Rattle.std.proofs.Common.{◌≡◌, ℕ, ◌+◌, List, [], ◌∷◌, ◌++◌, length, Some, None, Ok, Err, Option, Result, sym, refl, ap, ◌∙◌, append_assoc}
+use Rattle.std.proofs.Common.{◌≡◌, ℕ, ◌+◌, List, [], ◌∷◌, ◌++◌, length, Some, None, Ok, Err, Option, Result, sym, ap, ◌∙◌, append_assoc}
 use Rattle.faults.specs.Faults.{at_line}
 use Rattle.faults.specs.FaultLines.{fault_line}
 use Rattle.faults.specs.declared.fault.Fault.{Fault}

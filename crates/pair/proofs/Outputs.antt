@@ -1,12 +1,12 @@
 -- The row of a cycle, as it comes back.
-use Rattle.std.proofs.Common.{◌≡◌, ℕ, ◌≤◌, List, ◌++◌, length, take, ℤ, Ok, Option, sym, refl, ap, ◌∙◌, arith}
+use Rattle.std.proofs.Common.{◌≡◌, ℕ, ◌≤◌, List, ◌++◌, length, take, ℤ, Ok, Option, sym, ap, ◌∙◌, arith}
 use Rattle.std.proofs.lemmas.List.{take-append-le, take_all}
 use Rattle.faults.specs.declared.fault.Fault.{Fault}
 use Rattle.source.specs.Meaning.{answer_of}
 use Rattle.machine.proofs.Cycles.{accepted}
 use Rattle.mill.specs.Mills.{Mill, unless}
 use Rattle.mill.specs.Calls.{cycle_refusal, outputs, result_of, row_after}
-use Rattle.mill.specs.Runs.{Reply, put_out}
+use Rattle.mill.specs.Runs.{put_out}
 
 -- what was written is the front of what it was written into
 front : (xs ys : List ℤ) (n : ℕ) → length xs ≡ n → take n (xs ++ ys) ≡ xs

@@ -1,5 +1,5 @@
 -- A run over one list of calls is one over another that every mill takes alike.
-use Rattle.std.proofs.Common.{◌≡◌, List, map, IfOk, Ok, Err, Result, ◌∙◌}
+use Rattle.std.proofs.Common.{◌≡◌, List, IfOk, Ok, Err, Result, ◌∙◌}
 use Rattle.mill.specs.Mills.{Mill}
 use Rattle.mill.specs.Runs.{Command, Reply, answers, run}
 use Rattle.pair.specs.PairCalls.{AllAlike}

@@ -1,5 +1,5 @@
 -- A target that is brought to the largest number lies beyond the position limit, as it did before.
-use Rattle.std.proofs.Common.{◌≡◌, ℕ, suc, ◌-◌, ◌^◌, ◌<◌, ◌≤◌, min, Bool, true, false, cond, ltb, ℤ, pos, negsuc, nat_abs, Some, None, Option, sym, refl, ap, ◌∙◌, arith}
+use Rattle.std.proofs.Common.{◌≡◌, ℕ, suc, ◌-◌, ◌^◌, min, Bool, true, false, ltb, ℤ, pos, negsuc, Some, None, Option, sym, refl, ap, ◌∙◌, arith}
 use Rattle.std.specs.Int.{saturate_to_bits}
 use Rattle.std.proofs.lemmas.Bool.{cond-true, lt-ltb, ltb-true, ltb-false}
 use Rattle.faults.specs.declared.fault.Fault.{Fault}
@@ -7,7 +7,7 @@ use Rattle.faults.specs.declared.fault.Refusal.TheVariants.{OutOfRange}
 use Rattle.source.specs.Meaning.{answer_of}
 use Rattle.motor.specs.Motors.{sent}
 use Rattle.mill.specs.Mills.{Mill, first, machine_fault, motor_at, unless, with_motor}
-use Rattle.mill.specs.Calls.{absent, is_far, not_closed, too_far, target_refusal, targets}
+use Rattle.mill.specs.Calls.{absent, is_far, not_closed, target_refusal, targets}
 use Rattle.mill.specs.Runs.{answer, next, done, target}
 use Rattle.pair.specs.PairCalls.{ActsAlike}
 

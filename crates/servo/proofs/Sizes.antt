@@ -1,8 +1,8 @@
 -- The sizes of gains that are in range.
-use Rattle.std.proofs.Common.{◌≡◌, ℕ, suc, ◌^◌, ◌<◌, ◌≤◌, Bool, true, false, ◌&&◌, leb, ℤ, pos, negsuc, nat_abs, sym, refl, ap, ◌∙◌, arith}
+use Rattle.std.proofs.Common.{◌≡◌, ℕ, suc, ◌≤◌, true, leb, ℤ, pos, negsuc, nat_abs, arith}
 use Rattle.std.proofs.lemmas.Bool.{leb-true, and_parts, false≢true}
 use Rattle.servo.specs.declared.settings.GainSettings.{GainSettings}
-use Rattle.servo.specs.Ranges.{within, fits, gains_fit, limits_fit, notch_fits}
+use Rattle.servo.specs.Ranges.{within, fits, gains_fit, limits_fit}
 
 pub up_to : (a b : ℕ) (z : ℤ) → within (pos a) (pos b) z ≡ true → nat_abs z ≤ b
 up_to a b (pos n) e = leb-true n b (and_parts (leb a n) (leb n b) e).1

@@ -1,4 +1,4 @@
-use Rattle.std.proofs.Common.{◌≡◌, false, pos, sym, ap, ◌∙◌, w32, w64, SFits, rules}
+use Rattle.std.proofs.Common.{false, pos, sym, ap, ◌∙◌, w32, w64, SFits, rules}
 use Rattle.std.proofs.lemmas.Int.{to_z-of_z}
 use Rattle.notch.specs.Filter.{output}
 use Rattle.servo.specs.Memories.{memory_of}

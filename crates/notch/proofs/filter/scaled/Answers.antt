@@ -1,5 +1,5 @@
-use Rattle.std.proofs.Common.{◌≡◌, false, ℤ, negsuc, refl, ap, ◌∙◌, w64, SFits, to_z, of_z, rules}
-use lib.Ieee.{Float, fin, binary64, of_int, mul, of_bits}
+use Rattle.std.proofs.Common.{◌≡◌, false, negsuc, refl, ap, ◌∙◌, w64, rules}
+use lib.Ieee.{fin, binary64, of_int, mul, of_bits}
 use Rattle.std.proofs.lemmas.Int.{to_z-of_z}
 use Rattle.notch.proofs.filter.scaled.Goals as goal
 

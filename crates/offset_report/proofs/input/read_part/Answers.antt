@@ -1,4 +1,4 @@
-use Rattle.std.proofs.Common.{length, take, ap, ◌∙◌, arith}
+use Rattle.std.proofs.Common.{length, ap, arith}
 use Rattle.std.proofs.lemmas.List.{length-take}
 use Rattle.offset_report.proofs.Lengths.{front_part}
 use Rattle.offset_report.proofs.input.read_part.Goals as goal

@@ -1,4 +1,4 @@
-use Rattle.std.proofs.Common.{◌≡◌, ◌+◌, [], ◌++◌, Some, None, vec_items, Option, sym, ap, ◌∙◌, subst}
+use Rattle.std.proofs.Common.{◌≡◌, ◌+◌, [], ◌++◌, Some, None, vec_items, Option, sym, ap, ◌∙◌}
 use Rattle.layers.specs.SheetLayers.{sheet_fit, table_put, sheet_put}
 use Rattle.layers.specs.Laying.{fits_of}
 use Rattle.sheets.specs.Tables.{Table, begun, held}

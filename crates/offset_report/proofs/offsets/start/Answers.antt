@@ -1,7 +1,6 @@
-use Rattle.std.proofs.Common.{◌≡◌, ◌++◌, vec_items, sym, ap, ◌∙◌, arith, rules}
+use Rattle.std.proofs.Common.{vec_items, ◌∙◌, arith}
 use Rattle.sheets.specs.Tables.{begun}
-use Rattle.offset_report.specs.Offsets.{bank_meaning}
-use Rattle.offset_report.proofs.Starting.{start_refused, start_set_up, start_end}
+use Rattle.offset_report.proofs.Starting.{start_refused}
 use Rattle.offset_report.proofs.offsets.start.Goals as goal
 
 pub loop-reading-preserved : goal.loop-reading-preserved

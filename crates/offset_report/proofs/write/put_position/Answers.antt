@@ -1,4 +1,4 @@
-use Rattle.std.proofs.Common.{◌≡◌, [], ◌∷◌, ◌++◌, vec_items, codes, decimal, ap, ◌∙◌, w64, rules}
+use Rattle.std.proofs.Common.{[], ◌∷◌, ◌++◌, vec_items, codes, decimal, ap, ◌∙◌, w64}
 use Rattle.std.proofs.lemmas.Int.{to_z-of_z}
 use Rattle.std.specs.Fmt.{signed_decimal}
 use Rattle.lines.proofs.Joins.{joins}

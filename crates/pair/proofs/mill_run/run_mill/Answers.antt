@@ -1,4 +1,4 @@
-use Rattle.std.proofs.Common.{◌≡◌, List, ◌++◌, map, vec_items, refl, ap, ◌∙◌}
+use Rattle.std.proofs.Common.{List, ◌++◌, map, vec_items, refl, ap, ◌∙◌}
 use Rattle.machine.specs.Machines.{mill_of}
 use Rattle.mill.specs.declared.answer.Answer.{Answer}
 use Rattle.mill.specs.Asked.{command_of, reply_of}

@@ -1,4 +1,4 @@
-use Rattle.std.proofs.Common.{◌≡◌, ℕ, length, drop, sym, ap, ◌∙◌, arith}
+use Rattle.std.proofs.Common.{◌≡◌, ℕ, length, ap, ◌∙◌}
 use Rattle.machine.specs.Machines.{mill_of}
 use Rattle.mill.specs.Calls.{cycles}
 use Rattle.pair.proofs.Outputs.{accepted_row}

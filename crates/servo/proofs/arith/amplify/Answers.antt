@@ -1,4 +1,4 @@
-use Rattle.std.proofs.Common.{◌≡◌, ◌^◌, ◌∙◌, le_of_lt, lit<, lit≤}
+use Rattle.std.proofs.Common.{◌^◌, le_of_lt, lit<, lit≤}
 use Rattle.servo.proofs.Near.{near, near_mul, near_fits, near_back, near_shift}
 use Rattle.servo.proofs.arith.amplify.Goals as goal
 

@@ -1,5 +1,5 @@
 use Rattle.std.proofs.Common.{arith}
-use Rattle.servo.proofs.Sizes.{Sizes, sizes}
+use Rattle.servo.proofs.Sizes.{sizes}
 use Rattle.servo.proofs.gains.accepted.Goals as goal
 
 pub invariant_of-result : goal.invariant_of-result

@@ -1,4 +1,4 @@
-use Rattle.std.proofs.Common.{◌≡◌, ◌+◌, ◌-◌, ◌*◌, get_or, ℤ, pos, ◌∙◌, arith, w16, w64, SFits, to_z, of_z, rules}
+use Rattle.std.proofs.Common.{◌≡◌, ◌+◌, ◌-◌, ◌*◌, get_or, pos, ◌∙◌, arith, w16, w64, SFits, to_z, of_z, rules}
 use Rattle.std.proofs.lemmas.Int.{ints}
 use Rattle.values.proofs.Entries.{counted_past}
 use Rattle.values.proofs.Sizes.{corner_below}

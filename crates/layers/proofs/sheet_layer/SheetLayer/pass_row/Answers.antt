@@ -1,4 +1,4 @@
-use Rattle.std.proofs.Common.{◌≡◌, ap, ◌∙◌}
+use Rattle.std.proofs.Common.{ap, ◌∙◌}
 use Rattle.source.specs.Meaning.{Meaning}
 use Rattle.layers.specs.SheetLayers.{sheet_put}
 use Rattle.layers.specs.SheetLaws.{sheet_after}

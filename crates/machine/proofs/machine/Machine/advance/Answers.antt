@@ -1,4 +1,4 @@
-use Rattle.std.proofs.Common.{◌≡◌, [], map, sym, ap, ◌∙◌}
+use Rattle.std.proofs.Common.{map, sym, ap, ◌∙◌}
 use Rattle.motor.specs.Motors.{view}
 use Rattle.machine.specs.Machines.{mill_of}
 use Rattle.machine.proofs.Cycles.{same_axes, done}

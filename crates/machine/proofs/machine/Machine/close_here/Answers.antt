@@ -1,4 +1,4 @@
-use Rattle.std.proofs.Common.{◌≡◌, map, get_or, set, ℤ, ap, ◌∙◌, w64, SFits, rules}
+use Rattle.std.proofs.Common.{map, get_or, set, ℤ, ap, ◌∙◌, w64, SFits, rules}
 use Rattle.std.proofs.lemmas.Int.{to_z-of_z}
 use Rattle.faults.specs.declared.fault.Refusal.TheVariants.{AxisClosed}
 use Rattle.motor.specs.declared.state.Event.TheVariants.{Closing}

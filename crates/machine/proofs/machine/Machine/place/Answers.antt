@@ -1,4 +1,4 @@
-use Rattle.std.proofs.Common.{◌≡◌, [], map, get_or, ◌+ℤ◌, ◌∙◌, arith, w64, SFits, rules}
+use Rattle.std.proofs.Common.{[], map, get_or, ◌+ℤ◌, ◌∙◌, arith, w64, SFits, rules}
 use borrow.Author.Differences.{ints}
 use Rattle.std.proofs.lemmas.Int.{to_z-of_z}
 use Rattle.motor.specs.Motors.{fresh, view}

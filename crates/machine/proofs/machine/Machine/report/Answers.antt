@@ -1,4 +1,4 @@
-use Rattle.std.proofs.Common.{◌≡◌, map, ◌∙◌, w32, w64, SFits, rules}
+use Rattle.std.proofs.Common.{◌∙◌, w32, w64, SFits, rules}
 use Rattle.std.proofs.lemmas.Int.{to_z-of_z}
 use Rattle.motor.specs.Motors.{following_error}
 use Rattle.machine.proofs.machine.Machine.report.Goals as goal

@@ -1,4 +1,4 @@
-use Rattle.std.proofs.Common.{◌≡◌, map, get_or, set, ℤ, refl, ap, ◌∙◌, w32, SFits, rules}
+use Rattle.std.proofs.Common.{map, get_or, set, ℤ, refl, ap, ◌∙◌, w32, SFits, rules}
 use Rattle.std.proofs.lemmas.Int.{to_z-of_z}
 use Rattle.motor.specs.Motors.{view, fresh, stepped}
 use Rattle.machine.proofs.machine.Machine.turn.Goals as goal

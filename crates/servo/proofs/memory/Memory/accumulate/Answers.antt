@@ -1,4 +1,4 @@
-use Rattle.std.proofs.Common.{◌≡◌, ◌^◌, ◌∙◌, lit<}
+use Rattle.std.proofs.Common.{◌^◌, lit<}
 use Rattle.servo.specs.Memories.{memory_of}
 use Rattle.servo.specs.Step.{error}
 use Rattle.servo.proofs.Near.{near, near_add, near_back, near_call, near_fits, near_times}

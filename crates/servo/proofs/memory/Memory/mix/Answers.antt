@@ -1,5 +1,5 @@
 -- The sum of M, one operation at a time.
-use Rattle.std.proofs.Common.{◌≡◌, ◌^◌, ◌≤◌, pos, ap, ◌∙◌, lt_of_le_of_lt, lit<, lit≤}
+use Rattle.std.proofs.Common.{◌^◌, pos, ap, ◌∙◌, lt_of_le_of_lt, lit<, lit≤}
 use Rattle.servo.specs.Clip.{floor}
 use Rattle.servo.proofs.Near.{near, near_lit, near_mul, near_add, near_sub, near_back, near_call, near_fits, near_le, near_times}
 use Rattle.servo.proofs.memory.Memory.mix.Goals as goal
