@@ -2,10 +2,10 @@
 #![tactic(auto)]
 
 #[cfg(test)]
-mod banks;
+mod bank_rows;
 #[cfg(test)]
 mod inputs;
 #[cfg(test)]
-mod stacks;
+mod stack_rows;
 #[cfg(test)]
 mod writing;
