@@ -3,7 +3,7 @@
 
     python3 reference/compare.py [SEED]
 
-Run it where target/bin/tables was built. It prints the seed, so that a run can be had again.
+Run it after `rt run` in crates/tables, which leaves the program there. It prints the seed, so that a run can be had again.
 """
 
 import collections
@@ -18,7 +18,7 @@ from damaged_texts import texts
 from table_reader import answer
 
 COUNT = 1000
-PROGRAM = pathlib.Path(__file__).resolve().parent.parent / "target" / "bin" / "tables"
+PROGRAM = pathlib.Path(__file__).resolve().parent.parent / "crates" / "tables" / "out" / "tables"
 
 
 def main():
