@@ -1,5 +1,5 @@
 -- A backlash layer keeps what every source keeps.
-use Rattle.std.specs.Prelude.{◌≡◌, ℕ, ◌<◌, Bool, true, false, cond, ltb, List, [], ◌∷◌, ℤ, pos, Some, None, Option, nat_lt, refl}
+use Rattle.std.specs.Prelude.{◌≡◌, ℕ, ◌<◌, Bool, true, false, cond, List, [], ◌∷◌, ℤ, pos, Some, None, Option, nat_lt, refl}
 use Rattle.std.proofs.Common.{sym, ◌∙◌, ap, arith}
 use Rattle.std.proofs.lemmas.Bool.{ltb-true}
 use Rattle.rounding.specs.Bounds.{Within}
@@ -18,7 +18,7 @@ use Rattle.backlash.specs.Taking.{ranges_of, steps_near}
 -- a backlash that fits: its numbers are in range, its axis is there, and there is room
 pub record Fits (b : Backlash) (s : Seen) : Type 0 where
   pub ranged : ranges b ≡ true
-  pub there : ltb b.axis s.axes ≡ true
+  pub there : nat_lt b.axis s.axes ≡ true
   pub room : s.depth < 16
 
 pub fits : (b : Backlash) (s : Seen) → backlash_fit b s ≡ None → Fits b s

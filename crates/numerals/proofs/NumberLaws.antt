@@ -26,9 +26,9 @@ read_on n (c ∷ cs) = read_on (n * 10 + (c - 48)) cs
 pub own : IsNumeralModel (λ ds. all_ascii_digits ds ≡ true) (read_on 0)
 own = numerals_by_fold _ (search rules) read_on (search rules)
 
-pub readOn_ge : (n : ℕ) (ds : List ℕ) → n ≤ read_on n ds
-readOn_ge n [] = omega arith
-readOn_ge n (c ∷ cs) = omega (arith, readOn_ge (n * 10 + (c - 48)) cs)
+pub read_on_ge : (n : ℕ) (ds : List ℕ) → n ≤ read_on n ds
+read_on_ge n [] = omega arith
+read_on_ge n (c ∷ cs) = omega (arith, read_on_ge (n * 10 + (c - 48)) cs)
 
 pub worth_full : (ds : List ℕ) → worth 10000000000 ds ≡ 10000000000
 worth_full [] = refl
@@ -47,7 +47,7 @@ worth_short n (c ∷ cs) h =
 pub worth_is : (n : ℕ) (ds : List ℕ) → read_on n ds < 10000000000 → worth n ds ≡ read_on n ds
 worth_is n [] h = refl
 worth_is n (c ∷ cs) h =
-    let e : min (n * 10 + (c - 48)) 10000000000 ≡ n * 10 + (c - 48) = omega (arith, readOn_ge (n * 10 + (c - 48)) cs) in
+    let e : min (n * 10 + (c - 48)) 10000000000 ≡ n * 10 + (c - 48) = omega (arith, read_on_ge (n * 10 + (c - 48)) cs) in
     ap (λ m. worth m cs) e ∙ worth_is (n * 10 + (c - 48)) cs h
 
 pub all_front : (s : List ℕ) → all_ascii_digits (front s) ≡ true

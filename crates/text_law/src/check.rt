@@ -24,7 +24,7 @@ fn copy_whole(sheet: &mut Sheet, text: &[u8], out: &mut Vec<u8>) -> Result<(), F
 /// A table's text, written again from the sheet that it was read into, or the line of the text's fault.
 pub fn check_table(heap: Global, input: &[u8]) -> Result<Vec<u8>, AllocError>
     ensures writes { IfOk result (λ out. out.items ≡ checked input.now) }
-    ensures law { OnOk result (TextLaw) }
+    ensures law { OnOk result TextLaw }
 {
     let mut sheet = Sheet::new();
     let mut out = vec![in heap; 0; input.len()]?;
