@@ -1,2 +1,2 @@
-pub mod FaultLines
+pub mod FaultTexts
 pub mod Faults

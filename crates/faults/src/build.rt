@@ -9,20 +9,7 @@ impl Refusal {
     pub fn number(self) -> u8
         ensures { result ≡ number self }
     {
-        match self {
-            Refusal::WrongForm => 1,
-            Refusal::OutOfRange => 2,
-            Refusal::NoSuchAxis => 3,
-            Refusal::WrongLength => 4,
-            Refusal::ReadingTooWide => 5,
-            Refusal::TooManyEntries => 6,
-            Refusal::Incomplete => 7,
-            Refusal::JumpTooLarge => 8,
-            Refusal::PositionLimit => 9,
-            Refusal::AxisClosed => 10,
-            Refusal::AxisNotClosed => 11,
-            Refusal::StackFull => 12,
-        }
+        self as u8
     }
 }
 
@@ -43,12 +30,7 @@ impl Fault {
     pub fn in_text(refusal: Refusal, line: usize) -> Fault
         ensures { result ≡ text_fault refusal line }
     {
-        Fault {
-            refusal,
-            part: Part::Text,
-            line: Some(line),
-            axis: None,
-        }
+        Fault::of(Part::Text, refusal).at_line(line)
     }
 
     /// The same fault, at an axis.
@@ -56,10 +38,8 @@ impl Fault {
         ensures { result ≡ on_axis axis self }
     {
         Fault {
-            refusal: self.refusal,
-            part: self.part,
-            line: self.line,
             axis: Some(axis),
+            ..self
         }
     }
 
@@ -68,10 +48,8 @@ impl Fault {
         ensures { result ≡ at_line line self }
     {
         Fault {
-            refusal: self.refusal,
-            part: self.part,
             line: Some(line),
-            axis: self.axis,
+            ..self
         }
     }
 }

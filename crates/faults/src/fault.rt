@@ -1,9 +1,9 @@
 //! Why a call was refused, and where.
 
-/// Why a call was refused.
+/// Why a call was refused. The variants have the numbers 1 to 12, in this order.
 #[derive(Clone, Copy, PartialEq, Eq, Debug)]
 pub enum Refusal {
-    WrongForm,
+    WrongForm = 1,
     OutOfRange,
     NoSuchAxis,
     WrongLength,

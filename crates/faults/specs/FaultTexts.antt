@@ -1,4 +1,4 @@
--- The line that a program writes for a fault.
+-- How a fault is printed.
 use Rattle.std.specs.Prelude.{ℕ, List, [], ◌∷◌, ◌++◌, Some, None, codes, decimal, Option}
 use Rattle.faults.specs.declared.fault.Fault.{Fault}
 use Rattle.faults.specs.declared.fault.Part.{Part}
@@ -16,8 +16,10 @@ abbrev pub named : List ℕ → Option ℕ → List ℕ
 named lead None = []
 named lead (Some n) = lead ++ decimal n
 
--- as `refused=5 line=9 axis=0 from=source`, with its line end
-abbrev pub fault_line : Fault → List ℕ
-fault_line f =
-    (codes "refused=" ++ decimal (number f.refusal))
-    ++ (named (codes " line=") f.line ++ (named (codes " axis=") f.axis ++ (codes " from=" ++ (part_name f.part ++ 10 ∷ []))))
+-- as `refused=5 line=9 axis=0 from=source`
+abbrev pub fault_text : Fault → List ℕ
+fault_text f =
+    codes "refused=" ++ decimal (number f.refusal)
+    ++ named (codes " line=") f.line
+    ++ named (codes " axis=") f.axis
+    ++ codes " from=" ++ part_name f.part
