@@ -1,0 +1,5 @@
+//! Arrays that are filled from their front.
+#![tactic(auto)]
+
+pub mod fill;
+pub mod filled;
