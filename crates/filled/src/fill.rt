@@ -33,6 +33,7 @@ impl<T: Copy, const N: usize> Filled<T, N> {
         }
     }
 
+    #[tactic(auto, using(crate::proofs::Filling::filled_none, crate::proofs::Filling::filled_more, crate::proofs::Filling::filled_all))]
     /// Items after those that are there; what no longer fits is let go.
     pub fn extend(&mut self, more: &[T])
         ensures { items self.new ≡ take N (items self.old ++ more.now) }
