@@ -1,2 +1,2 @@
+pub mod Fronts
 pub mod NumberLaws
-pub mod NumeralLaws

@@ -1,23 +1,13 @@
-use Rattle.std.proofs.Common.{◌≡◌, ℕ, zero, suc, ◌+◌, ◌-◌, ◌*◌, ◌<◌, ◌≤◌, min, Bool, true, false, cond, not, ◌&&◌, eqb, List, [], ◌∷◌, ◌++◌, length, get_or, drop, ℤ, pos, negsuc, ◌-ℤ◌, neg_ℤ, nat_abs, Some, None, decimal, Option, unwrap_or, sym, refl, ap, ◌∙◌, subst, ⊎_elim, add-one, arith, w64, to_z, of_z, rules}
+use Rattle.std.proofs.Common.{◌≡◌, ℕ, zero, suc, ◌+◌, ◌-◌, ◌*◌, ◌<◌, ◌≤◌, min, Bool, true, false, cond, not, ◌&&◌, eqb, List, [], ◌∷◌, ◌++◌, length, get_or, drop, ℤ, pos, negsuc, neg_ℤ, nat_abs, Some, None, decimal, Option, unwrap_or, sym, refl, ap, ◌∙◌, subst, ⊎_elim, add-one, arith, rules}
 use Rattle.std.specs.Str.{all_ascii_digits}
 use Rattle.std.specs.Fmt.{signed_decimal}
 use Rattle.std.proofs.lemmas.Str.Parse.{IsNumeralModel, numerals_by_fold}
 use Rattle.std.proofs.lemmas.Fmt.{decimal-digits_value, digits_decimal, digits_value-decimal, decimal_digit, first_decimal, decimal_nonempty}
-use Rattle.std.proofs.lemmas.Bool.{cases_lt, and_parts, and_from, ltb-true, eqb-true, eqb-false, ne_eqb, eq-eqb, and_left, and_right, not_from_true, not-true, not_from_false}
+use Rattle.std.proofs.lemmas.Bool.{cases_lt, and_parts, and_from, ltb-true, eqb-true, eqb-false, ne_eqb, eq-eqb, not-true, not_from_false}
 use Rattle.std.proofs.lemmas.Bool.Decides.{nat_tests}
 use Rattle.std.specs.Char.{is_ascii_digit}
-use Rattle.std.proofs.lemmas.List.{at_drop_more, at_drop_all, drop-drop, drop_all, append-nil, get_or-drop, get_or_append_left}
+use Rattle.std.proofs.lemmas.List.{drop-drop, drop_all, append-nil, get_or_append_left}
 use Rattle.numerals.specs.Numbers.{front, worth, plain, read_plain, read_minus, read_number, read_whole}
-use Rattle.std.proofs.lemmas.Int.{ints}
-
-pub front_more : {Y : Type 0} (F : List ℕ → Y) (s : List ℕ) (i : ℕ) → i < length s → is_ascii_digit (get_or s i 0) ≡ true → F (front (drop i s)) ≡ F (get_or s i 0 ∷ front (drop (i + 1) s))
-front_more F s i h e = at_drop_more (λ l. F (front l)) s i 0 h ∙ ap (λ b. F (cond b (get_or s i 0 ∷ front (drop (i + 1) s)) [])) e
-
-pub front_stop : {Y : Type 0} (F : List ℕ → Y) (s : List ℕ) (i : ℕ) → i < length s → is_ascii_digit (get_or s i 0) ≡ false → F (front (drop i s)) ≡ F []
-front_stop F s i h e = at_drop_more (λ l. F (front l)) s i 0 h ∙ ap (λ b. F (cond b (get_or s i 0 ∷ front (drop (i + 1) s)) [])) e
-
-pub front_end : {Y : Type 0} (F : List ℕ → Y) (s : List ℕ) (i : ℕ) → length s ≤ i → F (front (drop i s)) ≡ F []
-front_end F s i h = at_drop_all (λ l. F (front l)) s i h
 
 abbrev pub read_on : ℕ → List ℕ → ℕ
 read_on n [] = n
@@ -177,49 +167,6 @@ back_number (negsuc n) rest h d =
     ap read_minus b.0 ∙ ap (λ t. cond t (Some (neg_ℤ (pos (worth 0 (decimal (suc n)))), length (decimal (suc n)) + 1)) None) (minus_decimal n h)
     ∙ ap (λ m. Some (neg_ℤ (pos m), length (decimal (suc n)) + 1)) (sym (ap (worth 0) b.0) ∙ b.1)
     ∙ ap (λ m. Some (negsuc n, m)) (add-one (length (decimal (suc n))))
-
-pub front_first : (l : List ℕ) → 0 < length (front l) → get_or (front l) 0 0 ≡ get_or l 0 0
-front_first [] h = refl
-front_first (c ∷ cs) h =
-    elim (is_ascii_digit c) as (λ b. 0 < length (cond b (c ∷ front cs) []) → get_or (cond b (c ∷ front cs) []) 0 0 ≡ c) [ true ↦ (λ l. refl) | false ↦ (λ l. absurd (omega arith)) ] h
-
-pub first_at : (s : List ℕ) (i : ℕ) → 0 < length (front (drop i s)) → get_or (front (drop i s)) 0 0 ≡ get_or s i 0
-first_at s i h = front_first (drop i s) h ∙ get_or-drop i s 0 0 ∙ ap (λ k. get_or s k 0) (omega arith)
-
-pub plain_none : (ds : List ℕ) → length ds ≡ 0 → plain ds ≡ false
-plain_none ds h = grind (arith, nat_tests)
-
-pub plain_led : (ds : List ℕ) → get_or ds 0 0 ≡ 48 → 1 < length ds → plain ds ≡ false
-plain_led ds h l = grind (arith, nat_tests)
-
-pub plain_good : (ds : List ℕ) → 0 < length ds → (get_or ds 0 0 ≡ 48 → length ds ≡ 1) → plain ds ≡ true
-plain_good ds h l = grind (arith, nat_tests)
-
-pub as_minus : (s : List ℕ) (i : ℕ) → get_or s i 0 ≡ 45 → read_number (drop i s) ≡ read_minus (front (drop (i + 1) s))
-as_minus s i e =
-    let h : get_or (drop i s) 0 0 ≡ 45 = get_or-drop i s 0 0 ∙ ap (λ k. get_or s k 0) (omega arith) ∙ e in
-    ap (λ b. cond b (read_minus (front (drop 1 (drop i s)))) (read_plain (front (drop i s)))) (eq-eqb _ _ h)
-    ∙ ap (λ l. read_minus (front l)) (drop-drop 1 i s)
-
-pub as_plain : (s : List ℕ) (i : ℕ) → (get_or s i 0 ≡ 45 → ⊥) → read_number (drop i s) ≡ read_plain (front (drop i s))
-as_plain s i e =
-    let h : get_or (drop i s) 0 0 ≡ get_or s i 0 = get_or-drop i s 0 0 ∙ ap (λ k. get_or s k 0) (omega arith) in
-    ap (λ b. cond b (read_minus (front (drop 1 (drop i s)))) (read_plain (front (drop i s)))) (ne_eqb _ _ (λ f. e (sym h ∙ f)))
-
-pub minus_no : (ds : List ℕ) → plain ds ≡ false → read_minus ds ≡ None
-minus_no ds e = ap (λ b. cond b (Some (neg_ℤ (pos (worth 0 ds)), length ds + 1)) None) (and_left (plain ds) (not (eqb (worth 0 ds) 0)) e)
-
-pub minus_zero : (ds : List ℕ) → worth 0 ds ≡ 0 → read_minus ds ≡ None
-minus_zero ds e = ap (λ b. cond b (Some (neg_ℤ (pos (worth 0 ds)), length ds + 1)) None) (and_right (plain ds) (not (eqb (worth 0 ds) 0)) (not_from_true _ (eq-eqb _ _ e)))
-
-pub minus_yes : (ds : List ℕ) → plain ds ≡ true → (worth 0 ds ≡ 0 → ⊥) → read_minus ds ≡ Some (neg_ℤ (pos (worth 0 ds)), length ds + 1)
-minus_yes ds p e = ap (λ b. cond b (Some (neg_ℤ (pos (worth 0 ds)), length ds + 1)) None) (and_from (plain ds) (not (eqb (worth 0 ds) 0)) p (not_from_false _ (ne_eqb _ _ e)))
-
-pub plain_no : (ds : List ℕ) → plain ds ≡ false → read_plain ds ≡ None
-plain_no ds e = ap (λ b. cond b (Some (pos (worth 0 ds), length ds)) None) e
-
-pub negated : (n : ℕ) → n ≤ 10000000000 → to_z w64 (of_z w64 (pos 0 -ℤ to_z w64 n)) ≡ neg_ℤ (pos n)
-negated n h = omega (arith, ints)
 
 -- the two laws of a whole line
 pub back_whole : (z : ℤ) → nat_abs z < 10000000000 → read_whole (signed_decimal z) ≡ Some z

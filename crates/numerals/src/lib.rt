@@ -1,6 +1,4 @@
-//! Numbers in a text: how one is read, and the one text that it is written as.
+//! Numbers in a text, read.
 #![tactic(auto)]
 
 pub mod number;
-pub mod numeral;
-pub mod write;

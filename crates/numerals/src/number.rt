@@ -1,47 +1,71 @@
 //! A number read from a text: no plus sign, no leading zero, no minus before 0.
-ghost use Rattle.std.specs.Prelude.{◌≡◌, ◌+◌, ◌≤◌, true, false, length, drop, IfSome, MatchOption};
+ghost use Rattle.std.specs.Prelude.{◌≡◌, ◌≤◌, true, false, length, IfSome, MatchOption};
+ghost use Rattle.std.specs.Char.{is_ascii_digit};
+ghost use Rattle.std.specs.List.{take_while};
 ghost use Rattle.std.specs.Option.{option_map};
 ghost use Rattle.numerals.specs.Numbers.{front, worth, plain, read_number, read_whole, read_unsigned};
 
-/// The digits that stand at a place of a text: the number that they write, at most 10,000,000,000, and where they end.
+/// A size that no range reaches, and at which digits stop counting.
+const MOST: u64 = 10_000_000_000;
+
+/// How many digits a text begins with.
+fn width(text: &[u8]) -> usize
+    ensures value { result ≡ length (take_while is_ascii_digit text.now) }
+    ensures within { result ≤ length text.now }
+{
+    text.iter().take_while(|c| c.is_ascii_digit()).count()
+}
+
+/// The digits that a text begins with.
+#[tactic(auto, using(crate::proofs::Fronts::front_taken))]
+fn digits(text: &[u8]) -> &[u8]
+    ensures value { result.now ≡ front text.now }
+    ensures within { length result.now ≤ length text.now }
+{
+    &text[..width(text)]
+}
+
+/// Whether digits write a number with no leading zero.
+fn is_plain(digits: &[u8]) -> bool
+    ensures { result ≡ plain digits.now }
+{
+    !digits.is_empty() && (digits[0] != b'0' || digits.len() == 1)
+}
+
+/// The number that digits write.
+fn worth(digits: &[u8]) -> u64
+    ensures value { result ≡ worth 0 digits.now }
+    ensures most { result ≤ 10000000000 }
+{
+    let mut size = 0;
+    for c in digits {
+        size = (size * 10 + u64::from(c.saturating_sub(b'0'))).min(MOST);
+    }
+    size
+}
+
+/// The number that digits write, and how many digits there are.
 #[derive(Clone, Copy)]
 struct Run {
     size: u64,
-    end: usize,
-}
-
-fn digits(text: &[u8], at: usize) -> Run
-    requires { at ≤ length text.now }
-    ensures end { result.end ≡ at + length (front (drop at text.now)) }
-    ensures size { result.size ≡ worth 0 (front (drop at text.now)) }
-    ensures bound { (result.size ≤ 10000000000) × (result.end ≤ length text.now) }
-{
-    let mut size: u64 = 0;
-    let mut end = at;
-    while end < text.len() {
-        let c = text[end];
-        if !c.is_ascii_digit() {
-            break;
-        }
-        size = (size * 10 + (c - b'0') as u64).min(10_000_000_000);
-        end += 1;
-    }
-    Run { size, end }
+    width: usize,
 }
 
 /// Digits with no leading zero.
-fn unsigned(text: &[u8], at: usize) -> Option<Run>
-    requires { at ≤ length text.now }
-    ensures { MatchOption result (plain (front (drop at text.now)) ≡ false) (λ n. (plain (front (drop at text.now)) ≡ true) × (n.end ≡ at + length (front (drop at text.now))) × (n.size ≡ worth 0 (front (drop at text.now))) × (n.size ≤ 10000000000) × (n.end ≤ length text.now)) }
+fn unsigned(text: &[u8]) -> Option<Run>
+    ensures { MatchOption result
+        (plain (front text.now) ≡ false)
+        (λ n. (plain (front text.now) ≡ true)
+        × (n.width ≡ length (front text.now))
+        × (n.size ≡ worth 0 (front text.now))
+        × (n.size ≤ 10000000000)
+        × (n.width ≤ length text.now)) }
 {
-    let run = digits(text, at);
-    if run.end == at {
-        return None;
-    }
-    if text[at] == b'0' && run.end > at + 1 {
-        return None;
-    }
-    Some(run)
+    let digits = digits(text);
+    is_plain(digits).then_some(Run {
+        size: worth(digits),
+        width: digits.len(),
+    })
 }
 
 /// The number that a text begins with, and how many bytes it takes. One whose size is past 10,000,000,000 is read as of that size, which no range reaches.
@@ -55,25 +79,20 @@ pub fn read_number(text: &[u8]) -> Option<Number>
     ensures reads { option_map (λ n. (n.value, n.width)) result ≡ read_number text.now }
     ensures bound { IfSome result (λ n. n.width ≤ length text.now) }
 {
-    if !text.is_empty() && text[0] == b'-' {
-        let Some(run) = unsigned(text, 1) else {
-            return None;
-        };
-        if run.size == 0 {
-            return None;
-        }
-        let value = -(run.size as i64);
+    let [b'-', rest @ ..] = text else {
+        let run = unsigned(text)?;
         return Some(Number {
-            value,
-            width: run.end,
+            value: run.size as i64,
+            width: run.width,
         });
-    }
-    let Some(run) = unsigned(text, 0) else {
-        return None;
     };
+    let run = unsigned(rest)?;
+    if run.size == 0 {
+        return None;
+    }
     Some(Number {
-        value: run.size as i64,
-        width: run.end,
+        value: -(run.size as i64),
+        width: run.width + 1,
     })
 }
 
@@ -81,24 +100,14 @@ pub fn read_number(text: &[u8]) -> Option<Number>
 pub fn read_whole(line: &[u8]) -> Option<i64>
     ensures { result ≡ read_whole line.now }
 {
-    let Some(number) = read_number(line) else {
-        return None;
-    };
-    if number.width != line.len() {
-        return None;
-    }
-    Some(number.value)
+    let number = read_number(line)?;
+    (number.width == line.len()).then_some(number.value)
 }
 
 /// A line, without its end, that is a number with no minus and nothing else.
 pub fn read_unsigned(line: &[u8]) -> Option<u64>
     ensures { result ≡ read_unsigned line.now }
 {
-    let Some(run) = unsigned(line, 0) else {
-        return None;
-    };
-    if run.end != line.len() {
-        return None;
-    }
-    Some(run.size)
+    let run = unsigned(line)?;
+    (run.width == line.len()).then_some(run.size)
 }
