@@ -1,10 +1,11 @@
-use Rattle.std.proofs.Common.{◌≡◌, ℕ, suc, ◌+◌, ◌<◌, true, false, cond, eqb, List, [], ◌∷◌, ◌++◌, length, get_or, take, drop, ℤ, pos, negsuc, nat_abs, decimal, sym, refl, ap, ◌∙◌, arith}
+use Rattle.std.specs.List.{position, position_or_len}
+use Rattle.std.proofs.Common.{◌≡◌, ℕ, suc, ◌-◌, ◌<◌, not, nat_lt, Some, None, Option, subst, ◌+◌, ◌<◌, true, false, cond, eqb, List, [], ◌∷◌, ◌++◌, length, get_or, take, drop, ℤ, pos, negsuc, nat_abs, decimal, sym, refl, ap, ◌∙◌, arith}
 use Rattle.std.specs.Fmt.{signed_decimal}
 use Rattle.std.specs.Char.{is_ascii_digit}
 use Rattle.std.specs.Str.{all_ascii_digits}
 use Rattle.std.specs.List.{AllByRecursion}
-use Rattle.std.proofs.lemmas.List.{take-append-drop, drop_more}
-use Rattle.std.proofs.lemmas.Bool.{and_parts, eqb-true}
+use Rattle.std.proofs.lemmas.List.{take-append-drop, drop_more, take_rest, take_all, length-drop}
+use Rattle.std.proofs.lemmas.Bool.{and_parts, eqb-true, ltb-true, ltb-false}
 use Rattle.std.proofs.lemmas.Fmt.{digits_decimal}
 use Rattle.std.proofs.lemmas.Bool.Decides.{nat_tests}
 use Rattle.lines.specs.Lines.{Cut, onto, cut, joined_lines, CLOSE, same}
@@ -66,3 +67,51 @@ cut_at s i h f e =
 
 pub not_same : (l : List ℕ) → (l ≡ CLOSE → ⊥) → same l CLOSE ≡ false
 not_same l h = elim (same l CLOSE) as (λ b. same l CLOSE ≡ b → b ≡ false) [ true ↦ (λ q. absurd (h (same_is l CLOSE q))) | false ↦ (λ q. refl) ] refl
+
+-- the bytes before the first line end
+abbrev pub line_end : List ℕ → ℕ
+line_end s = position_or_len (λ c. eqb c 10) s
+
+pub flat_line : (s : List ℕ) → Flat (take (line_end s) s)
+flat_line [] = tt
+flat_line (c ∷ cs) =
+    let more : 1 + line_end cs ≡ suc (line_end cs) = omega arith in
+    elim (eqb c 10) as (λ b. eqb c 10 ≡ b → Flat (take (cond (not b) (1 + line_end cs) 0) (c ∷ cs))) [
+      | true ↦ (λ e. tt)
+      | false ↦ (λ e. subst (λ k. Flat (take k (c ∷ cs))) (sym more) (e, flat_line cs))
+    ] refl
+
+pub ends_there : (s : List ℕ) → line_end s < length s → get_or s (line_end s) 0 ≡ 10
+ends_there [] h = absurd (omega arith)
+ends_there (c ∷ cs) h =
+    let more : 1 + line_end cs ≡ suc (line_end cs) = omega arith in
+    elim (eqb c 10) as (λ b. eqb c 10 ≡ b → cond (not b) (1 + line_end cs) 0 < length (c ∷ cs) → get_or (c ∷ cs) (cond (not b) (1 + line_end cs) 0) 0 ≡ 10) [
+      | true ↦ (λ e l. eqb-true c 10 e)
+      | false ↦ (λ e l. ap (λ k. get_or (c ∷ cs) k 0) more ∙ ends_there cs (omega arith))
+    ] refl h
+
+-- a text with no line end is no line
+pub cut_nowhere : (s : List ℕ) → position (λ c. eqb c 10) s ≡ None → cut s ≡ record { lines = []; left = s }
+cut_nowhere s =
+    elim (nat_lt (line_end s) (length s)) as (λ b. nat_lt (line_end s) (length s) ≡ b → ◌≡◌ {A = Option ℕ} (cond b (Some (line_end s)) None) None → cut s ≡ record { lines = []; left = s }) [
+      | true ↦ (λ e f. let z : ◌≡◌ {A = ℕ} 0 1 = cc in absurd (omega arith))
+      | false ↦ (λ e f. flat_cut s (subst Flat (take_all (line_end s) s (ltb-false (line_end s) (length s) e)) (flat_line s)))
+    ] refl
+
+-- one with an end is cut there; what follows is written as a slice reads it
+pub cut_there : (s : List ℕ) (i : ℕ) → position (λ c. eqb c 10) s ≡ Some i
+    → (cut s ≡ record { lines = take i s ∷ (cut (take (length s - (i + 1)) (drop (i + 1) s))).lines; left = (cut (take (length s - (i + 1)) (drop (i + 1) s))).left })
+    × (length (take (length s - (i + 1)) (drop (i + 1) s)) < length s)
+cut_there s i =
+    elim (nat_lt (line_end s) (length s)) as (λ b. nat_lt (line_end s) (length s) ≡ b → ◌≡◌ {A = Option ℕ} (cond b (Some (line_end s)) None) (Some i)
+    → (cut s ≡ record { lines = take i s ∷ (cut (take (length s - (i + 1)) (drop (i + 1) s))).lines; left = (cut (take (length s - (i + 1)) (drop (i + 1) s))).left })
+    × (length (take (length s - (i + 1)) (drop (i + 1) s)) < length s)) [
+      | true ↦ (λ e f.
+          let at : line_end s ≡ i = cc in
+          let h : i < length s = omega (arith, ltb-true (line_end s) (length s) e) in
+          let flat : Flat (take i s) = subst (λ k. Flat (take k s)) at (flat_line s) in
+          let end : get_or s i 0 ≡ 10 = subst (λ k. get_or s k 0 ≡ 10) at (ends_there s (omega arith)) in
+          let rest : take (length s - (i + 1)) (drop (i + 1) s) ≡ drop (i + 1) s = take_rest s (i + 1) in
+          (cut_at s i h flat end ∙ ap (λ (x : List ℕ). record { lines = take i s ∷ (cut x).lines; left = (cut x).left }) (sym rest), omega (arith, ap length rest, length-drop (i + 1) s)))
+      | false ↦ (λ e f. let z : ◌≡◌ {A = ℕ} 0 1 = cc in absurd (omega arith))
+    ] refl

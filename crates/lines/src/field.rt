@@ -16,19 +16,14 @@ fn after_lead<'a>(text: &'a [u8], lead: &[u8]) -> Option<&'a [u8]>
 fn number_first(text: &[u8]) -> Option<(i64, &[u8])>
     ensures { option_map (λ x. (x.0, x.1.now)) result ≡ read_first text.now }
 {
-    let Some(number) = read_number(text) else {
-        return None;
-    };
-    let width = number.width;
-    Some((number.value, &text[width..]))
+    let number = read_number(text)?;
+    Some((number.value, &text[number.width..]))
 }
 
 /// A number after a lead, and what follows it.
 pub fn field<'a>(text: &'a [u8], lead: &[u8]) -> Option<(i64, &'a [u8])>
     ensures { option_map (λ x. (x.0, x.1.now)) result ≡ read_field lead.now text.now }
 {
-    let Some(rest) = after_lead(text, lead) else {
-        return None;
-    };
+    let rest = after_lead(text, lead)?;
     number_first(rest)
 }

@@ -1,6 +1,5 @@
-//! Lines of text: cut, and the numbers in them read and written.
+//! Lines of text: cut, and the numbers in them read.
 #![tactic(auto)]
 
 pub mod field;
 pub mod line;
-pub mod output;
