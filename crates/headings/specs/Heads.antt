@@ -1,7 +1,13 @@
 -- The headings of compensation tables.
-use Rattle.std.specs.Prelude.{ℕ, ◌+◌, ◌-◌, ◌*◌, Bool, true, cond, ◌&&◌, List, [], ◌∷◌, ℤ, pos, Ok, Err, Result, int_le, nat_le, unsigned_abs}
+use Rattle.std.specs.Prelude.{◌≡◌, ℕ, ◌+◌, ◌-◌, ◌*◌, Bool, true, cond, ◌&&◌, List, [], ◌∷◌, ℤ, pos, Ok, Err, Result, int_le, nat_le, unsigned_abs, MatchResult, false}
 use Rattle.headings.specs.declared.heading.Heading.{Heading}
 use Rattle.headings.specs.declared.heading.Heading.TheVariants.{Screw, Plane}
+use Rattle.headings.specs.declared.heading.MotorNumber.{MotorNumber}
+use Rattle.headings.specs.declared.heading.Screw.{Screw as ScrewHeading}
+use Rattle.headings.specs.declared.heading.Plane.{Plane as PlaneHeading}
+use Rattle.headings.specs.declared.numbers.ScrewNumbers.{ScrewNumbers}
+use Rattle.headings.specs.declared.numbers.PlaneNumbers.{PlaneNumbers}
+use Rattle.std.specs.Result.{result_map_both}
 use Rattle.faults.specs.Faults.{fault_of}
 use Rattle.faults.specs.declared.fault.Fault.{Fault}
 use Rattle.faults.specs.declared.fault.Part.TheVariants.{Sheet}
@@ -18,9 +24,15 @@ pub data Head : Type 0 where
   screw : ℕ → ℕ → ℕ → ℕ → Head
   plane : ℕ → ℕ → ℕ → ℕ → ℕ → ℕ → ℕ → Head
 
+abbrev pub screw_of : ScrewHeading → Head
+screw_of h = screw h.entries h.source.number h.target.number h.span
+
+abbrev pub plane_of : PlaneHeading → Head
+plane_of h = plane h.rows h.columns h.row_motor.number h.column_motor.number h.target.number h.row_span h.column_span
+
 abbrev pub head_of : Heading → Head
-head_of (Screw h) = screw h.entries h.source h.target h.span
-head_of (Plane h) = plane h.rows h.columns h.row_motor h.column_motor h.target h.row_span h.column_span
+head_of (Screw h) = screw_of h
+head_of (Plane h) = plane_of h
 
 -- how many entries a table has
 abbrev pub capacity : Head → ℕ
@@ -57,6 +69,19 @@ abbrev pub plane_heading : ℤ → ℤ → ℤ → ℤ → ℤ → ℤ → ℤ �
 plane_heading r c s u t a b =
     cond (plane_fits r c s u t a b)
     (Ok (plane (unsigned_abs r) (unsigned_abs c) (unsigned_abs s) (unsigned_abs u) (unsigned_abs t) (unsigned_abs a) (unsigned_abs b))) (Err (sheet_fault OutOfRange))
+
+-- what is made of plain numbers: a motor's number, and a screw's and a plane's heading
+
+abbrev pub MotorKnown : ℤ → Result MotorNumber Fault → Type 0
+MotorKnown z r =
+    MatchResult r (λ m. (within 8 z ≡ true) × (m.number ≡ unsigned_abs z)) (λ f. (within 8 z ≡ false) × (f ≡ sheet_fault OutOfRange))
+
+abbrev pub ScrewMade : ScrewNumbers → Result ScrewHeading Fault → Type 0
+ScrewMade n r = result_map_both screw_of (λ f. f) r ≡ screw_heading n.entries n.source n.target n.span
+
+abbrev pub PlaneMade : PlaneNumbers → Result PlaneHeading Fault → Type 0
+PlaneMade n r =
+    result_map_both plane_of (λ f. f) r ≡ plane_heading n.rows n.columns n.row_motor n.column_motor n.target n.row_span n.column_span
 
 -- entries in their range
 abbrev pub in_range : List ℤ → Bool
