@@ -1,2 +1,2 @@
-pub mod Facts
+pub mod Entering
 pub mod Held

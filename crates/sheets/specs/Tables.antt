@@ -1,8 +1,12 @@
 -- Tables, and what a sheet holds of one.
-use Rattle.std.specs.Prelude.{◌≡◌, ◌≤◌, Bool, true, cond, List, [], ◌∷◌, ◌++◌, length, take, ℤ, pos, Some, None, Option, ◌==◌, nat_le, unsigned_abs}
+use Rattle.std.specs.Prelude.{◌≡◌, ◌≤◌, Bool, true, cond, List, [], ◌∷◌, ◌++◌, length, ℤ, pos, Some, None, Ok, Err, Option, Result, ◌==◌, nat_le, unsigned_abs}
 use Rattle.faults.specs.declared.fault.Refusal.{Refusal}
 use Rattle.faults.specs.declared.fault.Refusal.TheVariants.{OutOfRange, TooManyEntries, Incomplete}
+use Rattle.std.specs.Option.{option_map}
+use Rattle.filled.specs.Items.{items}
 use Rattle.sheets.specs.declared.sheet.Sheet.{Sheet}
+use Rattle.sheets.specs.declared.table.Table.{Table as HeldTable}
+use Rattle.sheets.specs.declared.begun.Begun.{Begun}
 use Rattle.std.specs.List.{AllByRecursion}
 use Rattle.headings.specs.Heads.{Head, screw, plane, head_of, capacity, screw_fits, plane_fits}
 
@@ -22,13 +26,16 @@ pub record Valid (t : Table) : Type 0 where
   pub complete : length t.entries ≡ capacity t.head
   pub range : AllByRecursion (λ z. unsigned_abs z ≤ 32767) t.entries
 
--- the table begun in a sheet: its heading, and the entries that are in
-abbrev pub begun : Sheet → Table
-begun s = record { head = head_of s.heading; entries = take s.filled s.values }
+-- the table that is being defined: its heading, and the entries so far
+abbrev pub begun : Begun → Table
+begun b = record { head = head_of b.heading; entries = items b.entries }
 
 -- what a sheet holds: nothing, or a complete table
+abbrev pub table_of : HeldTable → Table
+table_of t = record { head = head_of t.heading; entries = items t.entries }
+
 abbrev pub held : Sheet → Option Table
-held s = cond s.complete (Some (begun s)) None
+held s = option_map table_of s.table
 
 abbrev pub fresh : Head → Table
 fresh h = record { head = h; entries = [] }
@@ -45,3 +52,7 @@ entry_refusal t v =
 -- why a close is refused, if it is
 abbrev pub close_refusal : Table → Option Refusal
 close_refusal t = cond (length t.entries == capacity t.head) None (Some Incomplete)
+
+-- what a close makes of a table
+abbrev pub closing : Table → Result Table Refusal
+closing t = elim (close_refusal t) [ None ↦ Ok t | Some r ↦ Err r ]

@@ -1,9 +1,14 @@
-//! The entries of a sheet, as a definition fills them.
-ghost use Rattle.std.specs.Prelude.{◌≡◌, ◌≤◌, length, Some, None, nat_le, unsigned_abs};
-ghost use Rattle.sheets.specs.Tables.{begun, held, push, entry_refusal, close_refusal};
+//! How a table is filled, entry by entry.
+ghost use Rattle.std.specs.Prelude.{◌≡◌, ◌≤◌, length, if◌then◌else◌, is_ok, nat_le, unsigned_abs};
+ghost use Rattle.std.specs.Result.{result_err, result_map_both};
+ghost use Rattle.headings.specs.Heads.{head_of};
+ghost use Rattle.sheets.specs.Tables.{begun, fresh, push, table_of, entry_refusal, close_refusal, closing};
 
-use crate::sheet::Sheet;
+use crate::begun::Begun;
+use crate::table::Table;
 use faults::fault::Refusal;
+use filled::filled::Filled;
+use headings::heading::Heading;
 
 /// Whether a value is in the range of an entry.
 fn is_narrow(value: i64) -> bool
@@ -12,53 +17,58 @@ fn is_narrow(value: i64) -> bool
     value.unsigned_abs() <= 32767
 }
 
-impl Sheet {
+impl Begun {
+    /// A table with no entries yet.
+    pub(crate) fn new(heading: Heading) -> Begun
+        ensures { begun result ≡ fresh (head_of heading) }
+    {
+        Begun {
+            heading,
+            entries: Filled::empty(0),
+        }
+    }
+
     /// How many entries are in.
     pub(crate) fn count(&self) -> usize
         ensures value { result ≡ length (begun self.now).entries }
         ensures bound { result ≤ 288 }
     {
-        self.filled
+        self.entries.items().len()
     }
 
-    /// Why an entry is refused, if it is: all are in, and then its range.
-    pub(crate) fn entry_refusal(&self, value: i64) -> Option<Refusal>
-        ensures { result ≡ entry_refusal (begun self.now) value }
+    /// Takes one more entry, or says why not: all are in, and then its range.
+    pub(crate) fn enter(&mut self, value: i64) -> Result<(), Refusal>
+        ensures refusal { result_err result ≡ entry_refusal (begun self.old) value }
+        ensures after { begun self.new ≡ (if is_ok result then push (begun self.old) value else begun self.old) }
     {
         if self.count() >= self.heading.entries() {
-            return Some(Refusal::TooManyEntries);
+            return Err(Refusal::TooManyEntries);
         }
         if !is_narrow(value) {
-            return Some(Refusal::OutOfRange);
+            return Err(Refusal::OutOfRange);
         }
-        None
+        self.entries.push(value as i16);
+        Ok(())
     }
 
-    /// Why a close is refused, if it is.
-    pub(crate) fn close_refusal(&self) -> Option<Refusal>
-        ensures { result ≡ close_refusal (begun self.now) }
+    /// Whether all entries are in.
+    pub(crate) fn check(&self) -> Result<(), Refusal>
+        ensures { result_err result ≡ close_refusal (begun self.now) }
     {
         if self.count() != self.heading.entries() {
-            return Some(Refusal::Incomplete);
+            return Err(Refusal::Incomplete);
         }
-        None
+        Ok(())
     }
 
-    /// Stores an entry behind those that are in.
-    pub(crate) fn store(&mut self, value: i64)
-        requires { entry_refusal (begun self.old) value ≡ None }
-        ensures stays { self.new.complete ≡ self.old.complete }
-        ensures after { begun self.new ≡ push (begun self.old) value }
+    /// The table, if all entries are in.
+    pub(crate) fn complete(self) -> Result<Table, Refusal>
+        ensures { result_map_both table_of (λ r. r) result ≡ closing (begun self) }
     {
-        self.values[self.filled] = value as i16;
-        self.filled += 1;
-    }
-
-    /// From now on the sheet holds the table that was begun.
-    pub(crate) fn complete(&mut self)
-        requires { close_refusal (begun self.old) ≡ None }
-        ensures { held self.new ≡ Some (begun self.old) }
-    {
-        self.complete = true;
+        self.check()?;
+        Ok(Table {
+            heading: self.heading,
+            entries: self.entries,
+        })
     }
 }

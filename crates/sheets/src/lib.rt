@@ -1,6 +1,8 @@
 //! Sheets: each is empty or holds a complete compensation table.
 #![tactic(auto)]
 
+mod begun;
 pub mod definition;
-pub mod entries;
+mod entries;
 pub mod sheet;
+pub mod table;
