@@ -1,5 +1,5 @@
 //! How a table is filled, entry by entry.
-ghost use Rattle.std.specs.Prelude.{◌≡◌, ◌≤◌, length, if◌then◌else◌, is_ok, nat_le, unsigned_abs};
+ghost use Rattle.std.specs.Prelude.{◌≡◌, ◌≤◌, length, if◌then◌else◌, None, is_ok, nat_le, unsigned_abs};
 ghost use Rattle.std.specs.Result.{result_err, result_map_both};
 ghost use Rattle.headings.specs.Heads.{head_of};
 ghost use Rattle.sheets.specs.Tables.{begun, fresh, push, table_of, entry_refusal, close_refusal, closing};
@@ -36,10 +36,9 @@ impl Begun {
         self.entries.items().len()
     }
 
-    /// Takes one more entry, or says why not: all are in, and then its range.
-    pub(crate) fn enter(&mut self, value: i64) -> Result<(), Refusal>
-        ensures refusal { result_err result ≡ entry_refusal (begun self.old) value }
-        ensures after { begun self.new ≡ (if is_ok result then push (begun self.old) value else begun self.old) }
+    /// Whether an entry is taken: not where all are in, and then not out of its range.
+    fn check_entry(&self, value: i64) -> Result<(), Refusal>
+        ensures { result_err result ≡ entry_refusal (begun self.now) value }
     {
         if self.count() >= self.heading.entries() {
             return Err(Refusal::TooManyEntries);
@@ -47,7 +46,24 @@ impl Begun {
         if !is_narrow(value) {
             return Err(Refusal::OutOfRange);
         }
+        Ok(())
+    }
+
+    /// Stores an entry behind those that are in.
+    fn store(&mut self, value: i64)
+        requires { entry_refusal (begun self.old) value ≡ None }
+        ensures { begun self.new ≡ push (begun self.old) value }
+    {
         self.entries.push(value as i16);
+    }
+
+    /// Takes one more entry, or says why not, and then nothing changes.
+    pub(crate) fn enter(&mut self, value: i64) -> Result<(), Refusal>
+        ensures refusal { result_err result ≡ entry_refusal (begun self.old) value }
+        ensures after { begun self.new ≡ (if is_ok result then push (begun self.old) value else begun self.old) }
+    {
+        self.check_entry(value)?;
+        self.store(value);
         Ok(())
     }
 
