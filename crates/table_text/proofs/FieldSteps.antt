@@ -1,5 +1,5 @@
 -- The numbers of a line, read one after another.
-use Rattle.std.proofs.Common.{◌≡◌, ℕ, ◌+◌, ◌<◌, ◌≤◌, cond, eqb, List, [], ◌∷◌, ◌++◌, length, get_or, drop, ℤ, Some, None, Option, refl, sym, ap, ◌∙◌, append_assoc, append-nil}
+use Rattle.std.proofs.Common.{◌≡◌, ℕ, ◌+◌, ◌<◌, ◌≤◌, cond, eqb, List, [], ◌∷◌, ◌++◌, length, get_or, drop, ℤ, Some, None, Option, refl, sym, ap, ◌∙◌, append_assoc}
 use Rattle.std.specs.Option.{option_map}
 use Rattle.std.proofs.lemmas.List.{at_drop_more, at_drop_all}
 use Rattle.lines.specs.Fields.{read_field, read_fields}
@@ -30,7 +30,3 @@ fields_more ls line rest p after xs z i h g e inv =
     inv
     ∙ ap (before xs) (at_drop_more (λ l. read_fields l rest) ls i [] h ∙ ap (λ q. read_fields (q ∷ drop (i + 1) ls) rest) g ∙ ap (after_field (drop (i + 1) ls)) e)
     ∙ before_more xs z (read_fields (drop (i + 1) ls) after)
-
-pub fields_all : (ls : List (List ℕ)) (line rest : List ℕ) (xs : List ℤ) (i : ℕ) → length ls ≤ i
-    → read_fields ls line ≡ before xs (read_fields (drop i ls) rest) → read_fields ls line ≡ before xs (cond (eqb (length rest) 0) (Some []) None)
-fields_all ls line rest xs i h inv = inv ∙ ap (before xs) (at_drop_all (λ l. read_fields l rest) ls i h)

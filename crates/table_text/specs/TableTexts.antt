@@ -1,5 +1,5 @@
 -- How a table text is read, line by line.
-use Rattle.std.specs.Prelude.{ℕ, ◌+◌, cond, List, [], ◌∷◌, Some, None, Ok, Err, Option, Result}
+use Rattle.std.specs.Prelude.{ℕ, ◌+◌, cond, List, [], ◌∷◌, length, Some, None, Ok, Err, Option, Result}
 use Rattle.std.specs.Result.{result_ok}
 use Rattle.numerals.specs.Numbers.{read_whole}
 use Rattle.lines.specs.Lines.{cut, CLOSE, same}
@@ -23,6 +23,10 @@ read_body t k [] (c ∷ cs) = Err (text_fault WrongForm k)
 read_body t k (l ∷ ls) left =
     cond (same l CLOSE) (elim (close_refusal t) [ None ↦ ended t k ls left | Some r ↦ Err (text_fault r k) ])
     (elim (read_whole l) [ None ↦ Err (text_fault WrongForm k) | Some z ↦ elim (entry_refusal t z) [ None ↦ read_body (push t z) (k + 1) ls left | Some r ↦ Err (text_fault r k) ] ])
+
+-- the lines of a text, read on from the table so far: the next line is that after its entries
+abbrev pub read_on : Table → List ℕ → Result Table Fault
+read_on t s = read_body t (length t.entries + 2) (cut s).lines (cut s).left
 
 abbrev pub read_lines : List (List ℕ) → List ℕ → Result Table Fault
 read_lines [] left = Err (text_fault WrongForm 1)

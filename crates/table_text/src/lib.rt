@@ -2,4 +2,5 @@
 #![tactic(auto)]
 
 pub mod heading;
+mod in_line;
 pub mod table;
