@@ -1,5 +1,5 @@
 -- A table's text has room on a page.
-use Rattle.std.proofs.Common.{ℕ, ◌+◌, ◌*◌, ◌<◌, ◌≤◌, List, [], ◌∷◌, ◌++◌, map, length, take, ℤ, pos, negsuc, nat_abs, codes, decimal, ap, arith}
+use Rattle.std.proofs.Common.{ℕ, ◌+◌, ◌*◌, ◌<◌, ◌≤◌, List, [], ◌∷◌, ◌++◌, map, length, ℤ, pos, negsuc, nat_abs, codes, decimal, ap, arith}
 use Rattle.std.specs.Fmt.{signed_decimal}
 use Rattle.std.specs.List.{AllByRecursion}
 use Rattle.std.proofs.lemmas.Fmt.{length-decimal-le, length_signed_le}
@@ -8,9 +8,10 @@ use Rattle.lines.specs.Lines.{CLOSE, joined_lines}
 use Rattle.headings.specs.declared.heading.Heading.{Heading}
 use Rattle.headings.specs.declared.heading.Heading.TheVariants.{Screw, Plane}
 use Rattle.headings.specs.Heads.{head_of}
-use Rattle.sheets.specs.declared.sheet.Sheet.{Sheet}
-use Rattle.sheets.specs.Tables.{begun}
-use Rattle.sheets.proofs.Facts.{counts}
+use Rattle.filled.specs.Items.{items}
+use Rattle.filled.proofs.Filling.{length-items-le}
+use Rattle.sheets.specs.declared.table.Table.{Table as HeldTable}
+use Rattle.sheets.specs.Tables.{table_of}
 use Rattle.sheets.proofs.Held.{all_of}
 use Rattle.table_writing.specs.TableTexts.{heading_line, text_of}
 use Rattle.table_writing.proofs.Rows.{joined_append}
@@ -38,34 +39,33 @@ unfolding heading_line
 heading_length (Screw h) =
     upto _ 49
     (field_length (codes "DEFINE COMP ") _ h.entries 12 29 (omega (arith, h.counted.1)) (omega arith)
-    (field_length (codes ",#") _ h.source 2 19 (omega (arith, h.sourced.1)) (omega arith)
-    (field_length (codes ",#") _ h.target 2 9 (omega (arith, h.targeted.1)) (omega arith)
+    (field_length (codes ",#") _ h.source.number 2 19 (omega (arith, h.source.known.1)) (omega arith)
+    (field_length (codes ",#") _ h.target.number 2 9 (omega (arith, h.target.known.1)) (omega arith)
     (last_length (codes ",") h.span 1 (omega (arith, h.spanned.1)) (omega arith)))))
     (omega arith)
 heading_length (Plane h) =
     upto _ 77
     (field_length (codes "DEFINE COMP ") _ h.rows 12 57 (omega (arith, h.rowed.1)) (omega arith)
     (field_length (codes ".") _ h.columns 1 48 (omega (arith, h.columned.1)) (omega arith)
-    (field_length (codes ",#") _ h.row_motor 2 38 (omega (arith, h.by_row.1)) (omega arith)
-    (field_length (codes ",#") _ h.column_motor 2 28 (omega (arith, h.by_column.1)) (omega arith)
-    (field_length (codes ",#") _ h.target 2 18 (omega (arith, h.targeted.1)) (omega arith)
+    (field_length (codes ",#") _ h.row_motor.number 2 38 (omega (arith, h.row_motor.known.1)) (omega arith)
+    (field_length (codes ",#") _ h.column_motor.number 2 28 (omega (arith, h.column_motor.known.1)) (omega arith)
+    (field_length (codes ",#") _ h.target.number 2 18 (omega (arith, h.target.known.1)) (omega arith)
     (field_length (codes ",") _ h.row_span 1 9 (omega (arith, h.row_spanned.1)) (omega arith)
     (last_length (codes ",") h.column_span 1 (omega (arith, h.column_spanned.1)) (omega arith))))))))
     (omega arith)
 
--- the whole text of what is in a sheet
-pub text_length : (s : Sheet) → length (text_of (begun s)) ≤ 2304
-text_length s =
-    let es = take s.filled s.values in
-    let hl = heading_line (head_of s.heading) in
+-- the whole text of a table
+pub text_length : (t : HeldTable) → length (text_of (table_of t)) ≤ 2304
+text_length t =
+    let es = items t.entries in
+    let hl = heading_line (head_of t.heading) in
     let rest = joined_lines (map signed_decimal es ++ CLOSE ∷ []) [] in
     omega (
       arith,
       length-append hl (10 ∷ rest),
       ap length (joined_append (map signed_decimal es) (CLOSE ∷ [])),
       length-append (joined_lines (map signed_decimal es) []) (CLOSE ++ 10 ∷ []),
-      heading_length s.heading,
-      rows_length es (all_of es s.narrow),
-      counts s,
-      s.few,
+      heading_length t.heading,
+      rows_length es (all_of es t.narrow),
+      length-items-le t.entries,
     )

@@ -1,8 +1,11 @@
 -- The lines of a table, put on a page one after another.
-use Rattle.std.proofs.Common.{◌≡◌, ℕ, ◌+◌, ◌<◌, List, [], ◌∷◌, ◌++◌, map, length, get_or, take, ℤ, pos, sym, refl, ap, ◌∙◌}
+use Rattle.std.proofs.Common.{◌≡◌, ℕ, ◌+◌, ◌<◌, ◌≤◌, append-nil, List, [], ◌∷◌, ◌++◌, map, length, get_or, take, ℤ, pos, sym, refl, ap, ◌∙◌}
 use Rattle.std.specs.Fmt.{signed_decimal}
-use Rattle.std.proofs.lemmas.List.{append_assoc, map-append, take_more}
+use Rattle.std.proofs.lemmas.List.{append_assoc, map-append, take_more, take_all}
 use Rattle.lines.specs.Lines.{joined_lines}
+use Rattle.filled.specs.declared.filled.Filled.{Filled}
+use Rattle.filled.specs.Items.{items}
+use Rattle.filled.proofs.Filling.{take-items}
 use Rattle.table_writing.specs.Pages.{clip}
 use Rattle.table_writing.proofs.Pages.{then}
 
@@ -25,8 +28,12 @@ rows_more es i h =
     ∙ joined_append (map signed_decimal (take i es)) (signed_decimal (get_or es i (pos 0)) ∷ [])
 
 -- one line more
-pub row_more : (es : List ℤ) (i : ℕ) (z : ℤ) → i < length es → z ≡ get_or es i (pos 0)
-    → (w x y v : List ℕ) → x ≡ clip (w ++ rows es i) → y ≡ clip (x ++ signed_decimal z) → v ≡ clip (y ++ 10 ∷ []) → v ≡ clip (w ++ rows es (i + 1))
-row_more es i z within here w x y v e f g =
-    then w x v (rows es i) (signed_decimal z ++ 10 ∷ []) e (then x y v (signed_decimal z) (10 ∷ []) f g)
-    ∙ ap (λ t. clip (w ++ (rows es i ++ (signed_decimal t ++ 10 ∷ [])))) here ∙ ap (λ t. clip (w ++ t)) (sym (rows_more es i within))
+
+-- no entry yet, one more, and all of them
+pub rows_none : (f : Filled ℕ 2304) (es : List ℤ) → items f ≡ clip (items f ++ rows es 0)
+rows_none f es = sym (ap clip (append-nil (items f)) ∙ take-items f)
+
+pub rows_next : (a b c : List ℕ) (es : List ℤ) (i : ℕ) (z : ℤ) → b ≡ clip (a ++ rows es i) → i < length es → z ≡ get_or es i (pos 0) → c ≡ clip (b ++ (signed_decimal z ++ 10 ∷ [])) → c ≡ clip (a ++ rows es (i + 1))
+rows_next a b c es i z e h is f =
+    then a b c (rows es i) (signed_decimal z ++ 10 ∷ []) e f
+    ∙ ap (λ t. clip (a ++ (rows es i ++ (signed_decimal t ++ 10 ∷ [])))) is ∙ ap (λ t. clip (a ++ t)) (sym (rows_more es i h))

@@ -1,7 +1,6 @@
 //! Table texts, written.
 #![tactic(auto)]
 
-pub mod heading;
-pub mod page;
-pub mod put;
+mod heading;
+mod page;
 pub mod write;

@@ -1,11 +1,36 @@
 //! The page that a text is put together on.
-ghost use Rattle.std.specs.Prelude.{◌≡◌, ◌≤◌, length};
+ghost use Rattle.std.specs.Prelude.{◌≡◌, [], ◌∷◌, ◌++◌};
+ghost use Rattle.filled.specs.Items.{items};
+ghost use Rattle.table_writing.specs.Pages.{clip};
 
-/// A page of 2304 bytes, written from its front. What no longer fits is let go, and nothing of a table's text is.
-#[derive(Drop)]
-pub struct Page {
-    pub(crate) bytes: [u8; 2304],
-    pub(crate) filled: usize,
-    ghost sized: { length bytes ≡ 2304 },
-    ghost few: { filled ≤ 2304 },
+use filled::filled::Filled;
+use itoa::{Buffer, Integer};
+
+/// A page of 2304 bytes, written from its front. Nothing of a table's text is let go.
+pub(crate) type Page = Filled<u8, 2304>;
+
+/// A number after what is there. Every number of a table's text is written here.
+pub(crate) fn put_number<N: Integer>(page: &mut Page, number: N)
+    ensures { items page.new ≡ clip (items page.old ++ N.text number) }
+{
+    let mut digits = Buffer::new();
+    page.extend(digits.format(number).as_bytes());
+}
+
+/// A lead and a number after it.
+#[tactic(auto, using(crate::proofs::Pages::then))]
+pub(crate) fn put_field<N: Integer>(page: &mut Page, lead: &[u8], number: N)
+    ensures { items page.new ≡ clip (items page.old ++ (lead.now ++ N.text number)) }
+{
+    page.extend(lead);
+    put_number(page, number);
+}
+
+/// A number and a line's end after it.
+#[tactic(auto, using(crate::proofs::Pages::then))]
+pub(crate) fn put_line<N: Integer>(page: &mut Page, number: N)
+    ensures { items page.new ≡ clip (items page.old ++ (N.text number ++ 10 ∷ [])) }
+{
+    put_number(page, number);
+    page.push(b'\n');
 }
