@@ -23,3 +23,7 @@ fault_text f =
     ++ named (codes " line=") f.line
     ++ named (codes " axis=") f.axis
     ++ codes " from=" ++ part_name f.part
+
+-- with its line end
+abbrev pub fault_line : Fault → List ℕ
+fault_line f = fault_text f ++ 10 ∷ []

@@ -6,7 +6,7 @@ use Rattle.std.proofs.lemmas.Bool.{le-leb}
 use Rattle.lines.specs.Lines.{cut}
 use Rattle.faults.specs.declared.fault.Fault.{Fault}
 use Rattle.faults.specs.declared.fault.Refusal.TheVariants.{WrongLength}
-use Rattle.faults.specs.FaultLines.{fault_line}
+use Rattle.faults.specs.FaultTexts.{fault_line}
 use Rattle.headings.specs.Heads.{Head, sheet_fault}
 use Rattle.sheets.specs.Tables.{Table, fresh}
 use Rattle.table_text.specs.HeadingTexts.{read_heading}

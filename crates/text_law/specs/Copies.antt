@@ -2,7 +2,7 @@
 use Rattle.std.specs.Prelude.{◌≡◌, ℕ, cond, List, ◌++◌, length, drop, Some, Ok, Err, Option, Result, nat_le}
 use Rattle.faults.specs.declared.fault.Fault.{Fault}
 use Rattle.faults.specs.declared.fault.Refusal.TheVariants.{WrongLength}
-use Rattle.faults.specs.FaultLines.{fault_line}
+use Rattle.faults.specs.FaultTexts.{fault_line}
 use Rattle.headings.specs.Heads.{sheet_fault}
 use Rattle.sheets.specs.Tables.{Table}
 use Rattle.table_text.specs.TableTexts.{reading}

@@ -1,6 +1,6 @@
 //! What the program `tables` writes for an input.
 ghost use Rattle.std.specs.Prelude.{◌≡◌, length, IfOk, MatchResult, OnOk};
-ghost use Rattle.faults.specs.FaultLines.{fault_line};
+ghost use Rattle.faults.specs.FaultTexts.{fault_line};
 ghost use Rattle.text_law.specs.Copies.{checked};
 ghost use Rattle.text_law.specs.TextLaw.{TextLaw};
 
@@ -15,10 +15,8 @@ fn copy_whole(sheet: &mut Sheet, text: &[u8], out: &mut Vec<u8>) -> Result<(), F
     ensures copies { MatchResult result (λ _. out.new.items ≡ checked text.now) (λ f. fault_line f ≡ checked text.now) }
     ensures law { TextLaw }
 {
-    match copy_text(sheet, text, out) {
-        Ok(_) => Ok(()),
-        Err(fault) => Err(fault),
-    }
+    copy_text(sheet, text, out)?;
+    Ok(())
 }
 
 /// A table's text, written again from the sheet that it was read into, or the line of the text's fault.
@@ -30,10 +28,6 @@ pub fn check_table(heap: Global, input: &[u8]) -> Result<Vec<u8>, AllocError>
     let mut out = vec![in heap; 0; input.len()]?;
     match copy_whole(&mut sheet, input, &mut out) {
         Ok(()) => Ok(out),
-        Err(fault) => {
-            out.clear();
-            fault.put(&mut out)?;
-            Ok(out)
-        }
+        Err(fault) => Ok(format!(in heap; "{fault}\n")?.into_bytes()),
     }
 }

@@ -28,8 +28,6 @@ pub fn copy_text(sheet: &mut Sheet, text: &[u8], out: &mut [u8]) -> Result<usize
     ensures stays { opens text.now ≡ None → sheet.new ≡ sheet.old }
     ensures law { TextLaw }
 {
-    match read_table(sheet, text) {
-        Ok(()) => write_text(sheet, out),
-        Err(fault) => Err(fault),
-    }
+    read_table(sheet, text)?;
+    write_text(sheet, out)
 }
