@@ -26,11 +26,12 @@ pub all_of : (es : List ℤ) → in_range es ≡ true → AllByRecursion (λ z. 
 all_of [] h = tt
 all_of (z ∷ es) h = let p = and_parts (leb (nat_abs z) 32767) (in_range es) h in (leb-true (nat_abs z) 32767 p.0, all_of es p.1)
 
+pub table_valid : (t : HeldTable) → Valid (table_of t)
+table_valid t = record { heading = fits_of t.heading; complete = t.whole; range = all_of (items t.entries) t.narrow }
+
 pub held_in : (o : Option HeldTable) (t : Table) → option_map table_of o ≡ Some t → Valid t
 held_in None t e = let w : ◌≡◌ {A = ℕ} 0 1 = cc in absurd (omega arith)
-held_in (Some h) t e =
-    let g : table_of h ≡ t = cc in
-    subst Valid g (record { heading = fits_of h.heading; complete = h.whole; range = all_of (items h.entries) h.narrow })
+held_in (Some h) t e = let g : table_of h ≡ t = cc in subst Valid g (table_valid h)
 
 pub held_valid : (s : Sheet) (t : Table) → held s ≡ Some t → Valid t
 held_valid s t e = held_in s.table t e

@@ -1,5 +1,5 @@
 -- A value is not larger than the largest entry.
-use Rattle.std.proofs.Common.{◌≡◌, ℕ, ◌+◌, ◌-◌, ◌*◌, ◌≤◌, true, List, get_or, ℤ, pos, ◌*ℤ◌, neg_ℤ, nat_abs, ◌≤ℤ◌, mul_comm, arith}
+use Rattle.std.proofs.Common.{◌≡◌, ℕ, ◌+◌, ◌-◌, ◌*◌, ◌≤◌, true, List, get_or, ℤ, pos, ◌*ℤ◌, neg_ℤ, nat_abs, ◌≤ℤ◌, mul_comm, sym, subst, arith}
 use Rattle.std.specs.List.{AllByRecursion}
 use Rattle.std.proofs.lemmas.Nat.{mod_below}
 use Rattle.std.proofs.lemmas.Int.{ints}
@@ -7,7 +7,9 @@ use Rattle.rounding.specs.Bounds.{Within}
 use Rattle.rounding.proofs.RoundingLaws as laws
 use Rattle.rounding.proofs.Sums.{regroup}
 use Rattle.headings.specs.Heads.{Head, screw, plane}
-use Rattle.sheets.specs.Tables.{Table, Valid, head_fits}
+use Rattle.sheets.specs.declared.table.Table.{Table as HeldTable}
+use Rattle.sheets.specs.Tables.{Table, Valid, head_fits, table_of}
+use Rattle.sheets.proofs.Held.{table_valid}
 use Rattle.values.specs.Values.{phase, place, part, corner, between, numerator, denominator, value, head_numerator, head_denominator}
 use Rattle.values.specs.ValueLaws.{ValueBounded}
 use Rattle.values.proofs.Between.{between_low, between_high}
@@ -53,3 +55,7 @@ value_bounded t p q n h e =
 -- the bound of entries bounds each value
 pub value_near : (t : Table) (p q : ℤ) → Valid t → Within 32767 (value t p q)
 value_near t p q h = value_bounded t p q 32767 h h.range
+
+-- and so is the value of what a sheet holds
+pub table_near : (t : HeldTable) (row column v : ℤ) → v ≡ value (table_of t) row column → Within 32767 v
+table_near t row column v e = subst (λ (z : ℤ). Within 32767 z) (sym e) (value_near (table_of t) row column (table_valid t))

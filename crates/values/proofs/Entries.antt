@@ -6,11 +6,6 @@ use Rattle.rounding.specs.Bounds.{Within}
 use Rattle.values.specs.Values.{counted}
 use Rattle.values.proofs.Sizes.{within_of}
 
--- past 0 it is an entry
-pub counted_past : (vs : List ℤ) (v : ℤ) (k : ℕ) → 1 ≤ k → get_or vs (k - 1) (pos 0) ≡ counted vs v k
-counted_past vs v zero h = absurd (omega arith)
-counted_past vs v (suc k) h = ap (λ (i : ℕ). get_or vs i (pos 0)) (omega arith)
-
 -- and is no larger than they are
 pub none_within : (n : ℕ) → Within n (pos 0)
 none_within n = (omega (arith, ints), omega (arith, ints))

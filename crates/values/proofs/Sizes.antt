@@ -19,10 +19,3 @@ weighed v m w h = rw (mul_comm m w, *ℤ_comm v (pos w)) (size_of (w * m) (pos w
 -- a phase below the span lies in one of its n parts
 pub place_below : (q n l : ℕ) → q < l → 1 ≤ n → q * n / l < n
 place_below q n l h i = div_below (q * n) l n (omega arith) (omega (arith, mul-le-mul_left n h))
-
--- a corner of a plane of r rows and c columns is the first one, or has its entry
-pub corner_below : (r c i j : ℕ) → i ≤ r → j ≤ c → i * (c + 1) + j < (r + 1) * (c + 1)
-corner_below r c i j h k = omega (arith, mul-le-mul_left (c + 1) h)
-
-pub product_ranges : (a b m n : ℕ) → 1 ≤ a → a ≤ m → 1 ≤ b → b ≤ n → (1 ≤ a * b) × (a * b ≤ m * n)
-product_ranges a b m n h i k l = (mul-le-mul h k, mul-le-mul i l)

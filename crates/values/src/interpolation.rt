@@ -45,8 +45,7 @@ pub(crate) fn nearest(numerator: i64, denominator: u64) -> i64
     requires denominator { (1 ≤ denominator) × (denominator ≤ 2 ^ 44) }
     ensures { result ≡ rounded numerator (pos denominator) }
 {
-    match Fraction::new(numerator, denominator as i64) {
-        Some(fraction) => fraction.nearest(),
-        None => unreachable(),
-    }
+    Fraction::new(numerator, denominator as i64)
+        .unwrap()
+        .nearest()
 }

@@ -16,7 +16,7 @@ fn phase(position: i64, span: u32) -> u32
     ensures value { result ≡ phase span position }
     ensures below { result < span }
 {
-    position.rem_euclid(span as i64) as u32
+    position.rem_euclid(i64::from(span)) as u32
 }
 
 /// The place of a position in a span that is cut into parts.
