@@ -32,6 +32,11 @@ abbrev pub sheet_value : Option Table → Seen → ℤ
 sheet_value None s = pos 0
 sheet_value (Some t) s = value_seen t s
 
+-- the table of a sheet that fits
+abbrev pub fitting : Option Fault → Option Table → Option Table
+fitting None o = o
+fitting (Some f) o = None
+
 -- a table put on a source, and a copy of a sheet
 abbrev pub table_put : Option Table → Meaning → Meaning
 table_put o m = laid (sheet_fit o (m [])) (sheet_target o) (λ rs. sheet_value o (m rs)) m

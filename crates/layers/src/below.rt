@@ -32,10 +32,7 @@ pub fn position<S: Source>(below: &S, axis: usize) -> i64
     ensures value { result ≡ position_seen (S.Source.means below.now []) axis }
     ensures near { Within 1099511627776 result }
 {
-    match below.bare(axis) {
-        Ok(position) => position,
-        Err(_) => 0,
-    }
+    below.bare(axis).unwrap_or(0)
 }
 
 /// The offset below, which leaves room for what a layer adds.

@@ -1,17 +1,19 @@
 //! A layer that adds the value of a sheet.
 ghost use Rattle.std.specs.Prelude.{◌≡◌, [], None, ◌==◌};
 ghost use Rattle.rounding.specs.Bounds.{Within};
-ghost use Rattle.sheets.specs.Tables.{held};
+ghost use Rattle.std.specs.Option.{option_map};
+ghost use Rattle.sheets.specs.Tables.{held, table_of};
 ghost use Rattle.source.specs.Meaning.{answer_of, row_answer, after};
 ghost use Rattle.layers.specs.Laid.{share};
-ghost use Rattle.layers.specs.SheetLayers.{sheet_fit, sheet_target, sheet_value, sheet_put};
+ghost use Rattle.layers.specs.SheetLayers.{head_fit, sheet_fit, sheet_target, value_seen, sheet_value, sheet_put, fitting};
 ghost use Rattle.layers.specs.SheetLaws.{sheet_lawful};
 
 use crate::below::{has_axis, has_room, offset_below, position, sum};
 use faults::fault::{Fault, Part, Refusal};
 use sheets::sheet::Sheet;
+use sheets::table::Table;
 use source::source::Source;
-use values::value::value;
+use values::value::table_value;
 
 /// A copy of a sheet, on any source. Where it does not fit it is blank: it adds nothing and counts nothing.
 #[derive(Drop)]
@@ -24,10 +26,10 @@ pub struct SheetLayer<S: Source> {
 pub fn sheet_fit<S: Source>(sheet: &Sheet, below: &S) -> Result<(), Fault>
     ensures { result ≡ answer_of (sheet_fit (held sheet.now) (S.Source.means below.now [])) }
 {
-    if !sheet.is_complete() {
-        return Err(Fault::of(Part::Sheet, Refusal::Incomplete));
-    }
-    let heading = sheet.heading();
+    let table = sheet
+        .table()
+        .ok_or(Fault::of(Part::Sheet, Refusal::Incomplete))?;
+    let heading = table.heading();
     has_axis(below, Part::Sheet, heading.row_axis())?;
     has_axis(below, Part::Sheet, heading.column_axis())?;
     has_axis(below, Part::Sheet, heading.target_axis())?;
@@ -45,49 +47,38 @@ impl<S: Source> SheetLayer<S> {
         }
     }
 
-    // The sheet's value where the source stands now.
-    fn value_here(&self) -> i64
-        requires { sheet_fit (held self.now.sheet) (S.Source.means self.now.below []) ≡ None }
-        ensures value { result ≡ sheet_value (held self.now.sheet) (S.Source.means self.now.below []) }
+    // The table that a layer adds, where it fits.
+    fn fitted(&self) -> Option<&Table>
+        ensures { option_map (λ t. table_of t.now) result
+            ≡ fitting (sheet_fit (held self.now.sheet) (S.Source.means self.now.below [])) (held self.now.sheet) }
+    {
+        sheet_fit(&self.sheet, &self.below).ok()?;
+        self.sheet.table()
+    }
+
+    // The value of a table that fits, where the source stands now.
+    fn value_here(&self, table: &Table) -> i64
+        requires { head_fit (table_of table.now).head (S.Source.means self.now.below []) ≡ None }
+        ensures value { result ≡ value_seen (table_of table.now) (S.Source.means self.now.below []) }
         ensures near { Within 32767 result }
     {
-        let heading = self.sheet.heading();
+        let heading = table.heading();
         let row = position(&self.below, heading.row_axis());
         let column = position(&self.below, heading.column_axis());
-        match value(&self.sheet, row, column) {
-            Ok(here) => here,
-            Err(_) => 0,
-        }
-    }
-
-    // What a layer that fits adds at an axis.
-    fn fitted_amount(&self, axis: usize) -> i64
-        requires { sheet_fit (held self.now.sheet) (S.Source.means self.now.below []) ≡ None }
-        ensures value { result ≡ share None (axis == sheet_target (held self.now.sheet)) (sheet_value (held self.now.sheet) (S.Source.means self.now.below [])) }
-        ensures near { Within 32767 result }
-    {
-        if axis != self.target() {
-            return 0;
-        }
-        self.value_here()
-    }
-
-    // The axis that a layer that fits corrects.
-    fn target(&self) -> usize
-        requires { sheet_fit (held self.now.sheet) (S.Source.means self.now.below []) ≡ None }
-        ensures { result ≡ sheet_target (held self.now.sheet) }
-    {
-        self.sheet.heading().target_axis()
+        table_value(table, row, column)
     }
 
     // What the layer adds at an axis.
     fn amount(&self, axis: usize) -> i64
-        ensures value { result ≡ share (sheet_fit (held self.now.sheet) (S.Source.means self.now.below [])) (axis == sheet_target (held self.now.sheet)) (sheet_value (held self.now.sheet) (S.Source.means self.now.below [])) }
+        ensures value { result
+            ≡ share (sheet_fit (held self.now.sheet) (S.Source.means self.now.below []))
+                (axis == sheet_target (held self.now.sheet))
+                (sheet_value (held self.now.sheet) (S.Source.means self.now.below [])) }
         ensures near { Within 32767 result }
     {
-        match sheet_fit(&self.sheet, &self.below) {
-            Ok(()) => self.fitted_amount(axis),
-            Err(_) => 0,
+        match self.fitted() {
+            Some(table) if axis == table.heading().target_axis() => self.value_here(table),
+            _ => 0,
         }
     }
 

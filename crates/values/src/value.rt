@@ -11,8 +11,8 @@ use headings::heading::Heading;
 use sheets::sheet::Sheet;
 use sheets::table::Table;
 
-/// The value of a table.
-fn table_value(table: &Table, row: i64, column: i64) -> i64
+/// A table's value at a position of its row axis and of its column axis; a screw is read by the first alone.
+pub fn table_value(table: &Table, row: i64, column: i64) -> i64
     ensures value { result ≡ value (table_of table.now) row column }
     ensures near { Within 32767 result }
 {
@@ -23,7 +23,7 @@ fn table_value(table: &Table, row: i64, column: i64) -> i64
     }
 }
 
-/// A sheet's value at a position of its row axis and of its column axis; a screw is read by the first alone. An empty sheet has none.
+/// The value of the table in a sheet. An empty sheet has none.
 pub fn value(sheet: &Sheet, row: i64, column: i64) -> Result<i64, Fault>
     ensures value { result ≡ value_answer (held sheet.now) row column }
     ensures near { IfOk result (λ v. Within 32767 v) }
