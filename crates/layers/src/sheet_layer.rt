@@ -72,8 +72,8 @@ impl<S: Source> SheetLayer<S> {
     fn amount(&self, axis: usize) -> i64
         ensures value { result
             ≡ share (sheet_fit (held self.now.sheet) (S.Source.means self.now.below []))
-                (axis == sheet_target (held self.now.sheet))
-                (sheet_value (held self.now.sheet) (S.Source.means self.now.below [])) }
+            (axis == sheet_target (held self.now.sheet))
+            (sheet_value (held self.now.sheet) (S.Source.means self.now.below [])) }
         ensures near { Within 32767 result }
     {
         match self.fitted() {
