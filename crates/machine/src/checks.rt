@@ -1,13 +1,15 @@
 //! The checks of a machine's calls.
-ghost use Rattle.std.specs.Prelude.{◌≡◌, ◌<◌, [], Some, None, Ok, Err, OnOk};
-ghost use Rattle.source.specs.Meaning.{answer_of};
+ghost use Rattle.std.specs.Prelude.{◌≡◌, ◌<◌, [], Some, None, MatchResult, if◌then◌else◌};
 ghost use Rattle.mill.specs.Mills.{machine_fault};
-ghost use Rattle.mill.specs.Calls.{absent, closed, gains_refusal, not_closed, too_far, unfit};
+ghost use Rattle.mill.specs.Calls.{absent, closed, not_closed, too_far, unfit};
 ghost use Rattle.machine.specs.Machines.{mill_of};
 
+use crate::axis::{Axis, Present};
 use crate::machine::Machine;
+use crate::place::standing;
 use faults::fault::{Fault, Part, Refusal};
 use servo::gains::Gains;
+use servo::place::Place;
 use servo::settings::GainSettings;
 use source::source::Source;
 
@@ -18,67 +20,81 @@ fn refused(refusal: Refusal, axis: usize) -> Fault
     Fault::of(Part::Machine, refusal).on_axis(axis)
 }
 
-// 2 for gains out of range.
-fn fit(axis: usize, settings: GainSettings) -> Result<Gains, Fault>
-    ensures { elim result [ Ok g ↦ (unfit axis settings ≡ None) × (g.settings ≡ settings) | Err f ↦ unfit axis settings ≡ Some f ] }
+// The fault of a check that was not passed.
+pub(crate) fn passes(passed: bool, fault: Fault) -> Result<(), Fault>
+    ensures { let check = (if passed then None else Some fault) in
+        MatchResult result (λ _. check ≡ None) (λ f. check ≡ Some f) }
 {
-    match Gains::checked(settings) {
-        Ok(gains) => Ok(gains),
-        Err(fault) => Err(fault.on_axis(axis)),
-    }
+    passed.then_some(()).ok_or(fault)
 }
 
-// 2 for a target beyond the position limit.
-pub(crate) fn within_reach(axis: usize, target: i64) -> Result<(), Fault>
-    ensures { result ≡ answer_of (too_far axis target) }
+// Gains, and 2 for those out of range.
+pub(crate) fn fit(axis: usize, settings: GainSettings) -> Result<Gains, Fault>
+    ensures { let check = unfit axis settings in
+        MatchResult result (λ g. (check ≡ None) × (g.settings ≡ settings)) (λ f. check ≡ Some f) }
 {
-    if target.unsigned_abs() > 1_099_511_627_776 {
-        return Err(refused(Refusal::OutOfRange, axis));
-    }
-    Ok(())
+    Gains::checked(settings).map_err(|fault| fault.on_axis(axis))
+}
+
+// A target, and 2 for one beyond the position limit.
+pub(crate) fn within_reach(axis: usize, target: i64) -> Result<Place, Fault>
+    ensures { let check = too_far axis target in
+        MatchResult result (λ p. (check ≡ None) × (p.at ≡ target)) (λ f. check ≡ Some f) }
+{
+    let near = target.unsigned_abs() <= 1_099_511_627_776;
+    passes(near, refused(Refusal::OutOfRange, axis))?;
+    Ok(standing(target))
 }
 
 impl<S: Source> Machine<S> {
-    // 3 for an absent axis.
-    pub(crate) fn has_axis(&self, axis: usize) -> Result<(), Fault>
-        ensures answer { result ≡ answer_of (absent axis (mill_of S.Source.means self.now)) }
-        ensures there { OnOk result ((axis < (S.Source.means self.now.source []).axes) × (axis < 8)) }
+    // An axis that its source has.
+    pub(crate) fn at(&self, axis: usize) -> Present<'_, S>
+        requires { axis < (S.Source.means self.now.source []).axes }
+        ensures axis { result.axis.number ≡ axis }
+        ensures machine { result.machine.now ≡ self.now }
     {
-        if axis >= self.source.axes() {
-            return Err(refused(Refusal::NoSuchAxis, axis));
+        Present {
+            machine: self,
+            axis: Axis { number: axis },
         }
-        Ok(())
     }
 
-    // 10 for a closed axis.
-    pub(crate) fn is_open(&self, axis: usize) -> Result<(), Fault>
-        requires { axis < 8 }
-        ensures { result ≡ answer_of (closed axis (mill_of S.Source.means self.now)) }
+    // An axis that is there, and 3 for an absent one.
+    pub(crate) fn has_axis(&self, axis: usize) -> Result<Present<'_, S>, Fault>
+        ensures { let check = absent axis (mill_of S.Source.means self.now) in
+            MatchResult result
+            (λ p. (check ≡ None) × (p.axis.number ≡ axis) × (p.machine.now ≡ self.now))
+            (λ f. check ≡ Some f) }
     {
-        if self.inner.get(axis).is_closed() {
-            return Err(refused(Refusal::AxisClosed, axis));
-        }
-        Ok(())
+        passes(
+            axis < self.source.axes(),
+            refused(Refusal::NoSuchAxis, axis),
+        )?;
+        Ok(self.at(axis))
+    }
+}
+
+impl<S: Source> Present<'_, S> {
+    // Two checks and no flag for which: with one, its contract would name both laws of the mill, and a call would say less.
+    // The axis where it is not closed, and 10 for a closed one.
+    pub(crate) fn open(&self) -> Result<Axis, Fault>
+        ensures { let mill = mill_of S.Source.means self.now.machine.now in
+            let check = closed self.now.axis.number mill in
+            MatchResult result (λ a. (check ≡ None) × (a ≡ self.now.axis)) (λ f. check ≡ Some f) }
+    {
+        let fault = refused(Refusal::AxisClosed, self.axis.number);
+        passes(!self.motor().is_closed(), fault)?;
+        Ok(self.axis)
     }
 
-    // 11 for an axis that is not closed.
-    pub(crate) fn is_closed(&self, axis: usize) -> Result<(), Fault>
-        requires { axis < 8 }
-        ensures { result ≡ answer_of (not_closed axis (mill_of S.Source.means self.now)) }
+    // The axis where it is closed, and 11 for one that is not.
+    pub(crate) fn closed(&self) -> Result<Axis, Fault>
+        ensures { let mill = mill_of S.Source.means self.now.machine.now in
+            let check = not_closed self.now.axis.number mill in
+            MatchResult result (λ a. (check ≡ None) × (a ≡ self.now.axis)) (λ f. check ≡ Some f) }
     {
-        if !self.inner.get(axis).is_closed() {
-            return Err(refused(Refusal::AxisNotClosed, axis));
-        }
-        Ok(())
-    }
-
-    // The gains where an axis may take them, with the checks of a gain setting in their order.
-    pub(crate) fn may_take(&self, axis: usize, settings: GainSettings) -> Result<Gains, Fault>
-        ensures { elim result [ Ok g ↦ (gains_refusal axis settings (mill_of S.Source.means self.now) ≡ None) × (closed axis (mill_of S.Source.means self.now) ≡ None) × (axis < 8) × (g.settings ≡ settings) | Err f ↦ gains_refusal axis settings (mill_of S.Source.means self.now) ≡ Some f ] }
-    {
-        self.has_axis(axis)?;
-        let gains = fit(axis, settings)?;
-        self.is_open(axis)?;
-        Ok(gains)
+        let fault = refused(Refusal::AxisNotClosed, self.axis.number);
+        passes(self.motor().is_closed(), fault)?;
+        Ok(self.axis)
     }
 }

@@ -11,6 +11,7 @@ use Rattle.mill.specs.Calls.{absent, gains_refusal, close_refusal, target_refusa
 use Rattle.mill.specs.Runs.{Command, set_gains, close, kill, target, switch, question, cycle, next, run}
 use Rattle.stacks.specs.Runs.{offered}
 use Rattle.mills_law.specs.Moments.{rows_of}
+use Rattle.mills_law.proofs.Keeping.{next_keeps, run_keeps}
 
 -- a source of n axes, now and always
 abbrev pub Has : ℕ → Meaning → Type 0
@@ -46,22 +47,11 @@ fed n r k m h =
     ap (λ (o : Option Fault). (unless o m (cycled r m)).means) (cycle_refused n r k m h) ∙ fed_in (eqb k n) ((seen m).refusal r) r m
 
 -- the number of axes stays
-unless_has : (n : ℕ) (o : Option Fault) (x y : Mill) → Has n x.means → Has n y.means → Has n (unless o x y).means
-unless_has n None x y h k = k
-unless_has n (Some f) x y h k = h
-
 pub next_has : (n : ℕ) (c : Command) (m : Mill) → Has n m.means → Has n (next c m).means
-next_has n (set_gains a g) m h = unless_has n (gains_refusal a g m) m _ h h
-next_has n (close a) m h = unless_has n (close_refusal a m) m _ h h
-next_has n (kill a) m h = unless_has n (absent a m) m _ h h
-next_has n (target a t) m h = unless_has n (target_refusal a t m) m _ h h
-next_has n (switch a on) m h = unless_has n (absent a m) m _ h h
-next_has n (question a) m h = h
-next_has n (cycle r k) m h = unless_has n (cycle_refusal r k m) m (cycled r m) h (λ rs. h (r ∷ rs))
+next_has n c m h = next_keeps (λ k. Has n k.means) m h (λ a v. h) (λ r rs. h (r ∷ rs)) c
 
 pub run_has : (n : ℕ) (cs : List Command) (m : Mill) → Has n m.means → Has n (run cs m).means
-run_has n [] m h = h
-run_has n (c ∷ cs) m h = run_has n cs (next c m) (next_has n c m h)
+run_has n = run_keeps (λ k. Has n k.means) (next_has n)
 
 offered_in : (b : Bool) (m : Meaning) (r : List ℕ) (rs : Rows) → offered (cond b (after m r) m) rs ≡ offered m (cond b (r ∷ rs) rs)
 offered_in true m r rs = refl

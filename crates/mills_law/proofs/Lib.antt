@@ -3,6 +3,7 @@ pub mod Corrections
 pub mod Cycles
 pub mod EightMotors
 pub mod Feeding
+pub mod Keeping
 pub mod Likeness
 pub mod Limits
 pub mod Obeying

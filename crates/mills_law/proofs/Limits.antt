@@ -1,7 +1,9 @@
 -- Every call keeps outputs within their limits, and at 0 where an axis is not closed.
-use Rattle.std.proofs.Common.{◌≡◌, ℕ, zero, suc, ◌+◌, ◌≤◌, Bool, true, false, cond, ltb, List, [], ◌∷◌, get_or, set, ℤ, pos, nat_abs, Some, None, Ok, Err, Option, Result, sym, refl, subst, arith}
+use Rattle.std.proofs.Common.{◌≡◌, ℕ, zero, suc, ◌+◌, ◌≤◌, true, false, ltb, List, [], ◌∷◌, get_or, replicate, ℤ, pos, nat_abs, None, Ok, Err, Option, Result, sym, refl, subst, arith}
 use lib.Ieee.{of_int, binary64}
-use Rattle.std.proofs.lemmas.Bool.{true≢false}
+use Rattle.std.proofs.lemmas.Bool.{true≢false, cond_both}
+use Rattle.std.specs.List.{All}
+use Rattle.std.proofs.lemmas.List.Elements.{All-nil, All-cons, All-head, All-tail, All-replicate, All-set}
 use Rattle.faults.specs.declared.fault.Fault.{Fault}
 use Rattle.faults.specs.declared.fault.Refusal.TheVariants.{OutOfRange, AxisClosed}
 use Rattle.source.specs.Meaning.{Seen}
@@ -20,16 +22,13 @@ use Rattle.motor.specs.Motors.{MotorView, fresh, stopped, closed_at, acted_by, s
 use Rattle.mill.specs.Mills.{Mill, motor_at, with_motor, position, position_at, machine_fault, first, unless, stepped_all}
 use Rattle.mill.specs.Calls.{absent, closed, unfit, gains_refusal, close_refusal, target_refusal, cycle_refusal, cycled}
 use Rattle.mill.specs.Runs.{Command, set_gains, close, kill, target, switch, question, cycle, next, run}
+use Rattle.mills_law.proofs.Keeping.{run_keeps, unless_both}
 use Rattle.mills_law.proofs.Refusals.{first_none, passes, fails}
 
 pub record Limited (v : MotorView) : Type 0 where
   pub limit : nat_abs v.output ≤ nat_abs v.gains.output_limit
   pub still : is_closed v.state ≡ false → v.output ≡ pos 0
   pub range : nat_abs v.gains.output_limit ≤ 32767
-
-abbrev pub AllLimited : List MotorView → Type 0
-AllLimited [] = Unit {0}
-AllLimited (v ∷ vs) = Limited v × AllLimited vs
 
 stopped_limited : (s : State) (v : MotorView) → Limited v → Limited (stopped s v)
 stopped_limited s v h = record { limit = omega arith; still = λ _. refl; range = h.range }
@@ -51,30 +50,23 @@ stepped_limited Closed x v h =
     acted_limited (answer v.gains v.memory full x) (remembered v.gains v.memory full x) v h
 stepped_limited (Tripped c) x v h = h
 
-either : (b : Bool) (v w : MotorView) → Limited v → Limited w → Limited (cond b v w)
-either true v w h k = h
-either false v w h k = k
-
-all_stepped : (s : Seen) (i : ℕ) (vs : List MotorView) → AllLimited vs → AllLimited (stepped_all s i vs)
-all_stepped s i [] h = tt
+all_stepped : (s : Seen) (i : ℕ) (vs : List MotorView) → All Limited vs → All Limited (stepped_all s i vs)
+all_stepped s i [] h = All-nil Limited
 all_stepped s i (v ∷ vs) h =
-    (either (ltb i s.axes) (stepped (position s i v) v) v (stepped_limited v.state (position s i v) v h.0) h.0, all_stepped s (i + 1) vs h.1)
+    let k = All-head Limited v vs h in
+    All-cons Limited _ _ (cond_both (ltb i s.axes) (stepped (position s i v) v) v Limited (λ _. stepped_limited v.state (position s i v) v k) (λ _. k))
+    (all_stepped s (i + 1) vs (All-tail Limited v vs h))
 
 fresh_limited : Limited fresh
 fresh_limited = record { limit = omega arith; still = λ _. refl; range = omega arith }
 
-pub all_fresh : AllLimited (fresh ∷ fresh ∷ fresh ∷ fresh ∷ fresh ∷ fresh ∷ fresh ∷ fresh ∷ [])
-all_fresh = let f = fresh_limited in (f, (f, (f, (f, (f, (f, (f, (f, tt))))))))
+pub all_fresh : All Limited (replicate 8 fresh)
+all_fresh = All-replicate Limited 8 fresh fresh_limited
 
-pub limited_at : (vs : List MotorView) (a : ℕ) → AllLimited vs → Limited (get_or vs a fresh)
+pub limited_at : (vs : List MotorView) (a : ℕ) → All Limited vs → Limited (get_or vs a fresh)
 limited_at [] a h = fresh_limited
-limited_at (v ∷ vs) zero h = h.0
-limited_at (v ∷ vs) (suc a) h = limited_at vs a h.1
-
-set_limited : (vs : List MotorView) (a : ℕ) (v : MotorView) → AllLimited vs → Limited v → AllLimited (set vs a v)
-set_limited [] a v h k = tt
-set_limited (w ∷ vs) zero v h k = (k, h.1)
-set_limited (w ∷ vs) (suc a) v h k = (h.0, set_limited vs a v h.1 k)
+limited_at (v ∷ vs) zero h = All-head Limited v vs h
+limited_at (v ∷ vs) (suc a) h = limited_at vs a (All-tail Limited v vs h)
 
 -- new gains are in range, and the output of a motor that takes them is 0
 given_limited : (g : GainSettings) (v : MotorView) → fits g ≡ true → is_closed v.state ≡ false → Limited v → Limited (given g v)
@@ -83,15 +75,11 @@ given_limited g v e o h =
     record { limit = subst (λ (x : ℤ). nat_abs x ≤ nat_abs g.output_limit) (sym z) (omega arith); still = h.still; range = (sizes g e).output_limit }
 
 abbrev pub Sound : Mill → Type 0
-Sound m = AllLimited m.motors
-
-unless_sound : (o : Option Fault) (x y : Mill) → Sound x → (o ≡ None → Sound y) → Sound (unless o x y)
-unless_sound None x y h k = k refl
-unless_sound (Some f) x y h k = h
+Sound m = All Limited m.motors
 
 -- a call of one axis, by what it leaves there
 axis_sound : (o : Option Fault) (a : ℕ) (v : MotorView) (m : Mill) → Sound m → (o ≡ None → Limited (motor_at a m) → Limited v) → Sound (unless o m (with_motor a v m))
-axis_sound o a v m h k = unless_sound o m (with_motor a v m) h (λ n. set_limited m.motors a v h (k n (limited_at m.motors a h)))
+axis_sound o a v m h k = unless_both o m (with_motor a v m) Sound h (λ n. All-set Limited m.motors a v (k n (limited_at m.motors a h)) h)
 
 pub next_sound : (c : Command) (m : Mill) → Sound m → Sound (next c m)
 next_sound (set_gains a g) m h =
@@ -107,8 +95,7 @@ next_sound (target a t) m h =
 next_sound (switch a on) m h =
     axis_sound (absent a m) a (switched on (motor_at a m)) m h (λ _ k. record { limit = k.limit; still = k.still; range = k.range })
 next_sound (question a) m h = h
-next_sound (cycle r n) m h = unless_sound (cycle_refusal r n m) m (cycled r m) h (λ _. all_stepped (m.means (r ∷ [])) 0 m.motors h)
+next_sound (cycle r n) m h = unless_both (cycle_refusal r n m) m (cycled r m) Sound h (λ _. all_stepped (m.means (r ∷ [])) 0 m.motors h)
 
 pub run_sound : (cs : List Command) (m : Mill) → Sound m → Sound (run cs m)
-run_sound [] m h = h
-run_sound (c ∷ cs) m h = run_sound cs (next c m) (next_sound c m h)
+run_sound = run_keeps Sound next_sound

@@ -1,13 +1,12 @@
 -- The row of an accepted cycle holds what its axes put out afterwards.
-use Rattle.std.proofs.Common.{◌≡◌, ℕ, zero, suc, ◌≤◌, List, [], ◌∷◌, map, length, get_or, take, drop, ℤ, pos, Some, None, Ok, Option, Result, sym, refl, ◌∙◌, inl, inr, arith}
+use Rattle.std.proofs.Common.{◌≡◌, ℕ, zero, suc, ◌≤◌, List, [], ◌∷◌, map, length, get_or, take, drop, ℤ, pos, Some, None, Ok, Option, sym, refl, ◌∙◌, inl, inr}
 use Rattle.std.proofs.lemmas.List.{length-map, length-take-le}
 use Rattle.faults.specs.declared.fault.Fault.{Fault}
 use Rattle.source.specs.Meaning.{Meaning}
 use Rattle.motor.specs.Motors.{MotorView, fresh}
-use Rattle.mill.specs.declared.report.Report.{Report}
 use Rattle.mill.specs.Mills.{Mill, fresh_mill, unless, output_of}
 use Rattle.mill.specs.Calls.{result_of, cycle_refusal, cycled, outputs}
-use Rattle.mill.specs.Runs.{Command, set_gains, close, kill, target, switch, question, cycle, done, told, put_out, answer, next}
+use Rattle.mill.specs.Runs.{Command, set_gains, close, kill, target, switch, question, cycle, done, put_out, answer, next}
 use Rattle.mills_law.specs.Moments.{mill_at, said}
 use Rattle.mills_law.proofs.Walking.{call_or_none, next_at, told_at, silent_at}
 
@@ -17,29 +16,23 @@ pub record PutOut (m n : Mill) (row : List ℤ) : Type 0 where
   pub after : n ≡ cycled readings m
   pub out : row ≡ outputs readings m
 
-not_done : {A : Type 0} (r : Result (Unit {0}) Fault) (q : Result (List ℤ) Fault) → done r ≡ put_out q → A
-not_done r q e = let z : ◌≡◌ {A = ℕ} 0 1 = cc in absurd (omega arith)
-
-not_told : {A : Type 0} (r : Result Report Fault) (q : Result (List ℤ) Fault) → told r ≡ put_out q → A
-not_told r q e = let z : ◌≡◌ {A = ℕ} 0 1 = cc in absurd (omega arith)
-
 cycle_put : (o : Option Fault) (r : List ℕ) (m : Mill) (row : List ℤ) → put_out (result_of o (outputs r m)) ≡ put_out (Ok row) → PutOut m (unless o m (cycled r m)) row
 cycle_put None r m row e = record { readings = r; after = refl; out = let f : row ≡ outputs r m = cc in f }
-cycle_put (Some f) r m row e = let z : ◌≡◌ {A = ℕ} 0 1 = cc in absurd (omega arith)
+cycle_put (Some f) r m row e = cc
 
 call_put : (c : Command) (m : Mill) (row : List ℤ) → answer c m ≡ put_out (Ok row) → PutOut m (next c m) row
-call_put (set_gains a g) m row e = not_done _ (Ok row) e
-call_put (close a) m row e = not_done _ (Ok row) e
-call_put (kill a) m row e = not_done _ (Ok row) e
-call_put (target a t) m row e = not_done _ (Ok row) e
-call_put (switch a on) m row e = not_done _ (Ok row) e
-call_put (question a) m row e = not_told _ (Ok row) e
+call_put (set_gains a g) m row e = cc
+call_put (close a) m row e = cc
+call_put (kill a) m row e = cc
+call_put (target a t) m row e = cc
+call_put (switch a on) m row e = cc
+call_put (question a) m row e = cc
 call_put (cycle r n) m row e = cycle_put (cycle_refusal r n m) r m row e
 
 pub put_then : (s : Meaning) (cs : List Command) (k : ℕ) (row : List ℤ) → said s cs k ≡ put_out (Ok row) → PutOut (mill_at s cs k) (mill_at s cs (suc k)) row
 put_then s cs k row e =
     elim (call_or_none (drop k cs)) [
-      | inl n ↦ not_done (Ok tt) (Ok row) (sym (silent_at k cs (fresh_mill s) (done (Ok tt)) n) ∙ e)
+      | inl n ↦ let q = sym (silent_at k cs (fresh_mill s) (done (Ok tt)) n) ∙ e in cc
       | inr p ↦
           let c = p.call in
           let t = call_put c (mill_at s cs k) row (sym (told_at k cs (fresh_mill s) c p.rest (done (Ok tt)) p.is) ∙ e) in

@@ -45,7 +45,7 @@ module _ (s : Meaning) (cs : List Command) where
       let f = h.few in
       let x = run_has (s []).axes (take k cs) (fresh_mill s) h.axes [] in
       let y = as_many (m.means (p.readings ∷ [])) 0 m.motors in
-      let z = run_many (take k cs) (fresh_mill s) in
+      let z = run_many 8 (take k cs) (fresh_mill s) refl in
       ap length p.out ∙ row_length (seen m).axes (cycled p.readings m).motors (omega arith) ∙ x
 
   pub keeps_limits : Lawful s → KeepsLimits s cs

@@ -1,6 +1,6 @@
 -- An axis that is not closed stays so until a closing of it is accepted.
-use Rattle.std.proofs.Common.{◌≡◌, ℕ, zero, suc, ◌+◌, ◌-◌, ◌≤◌, Bool, true, false, cond, ltb, List, [], ◌∷◌, get_or, drop, set, replicate, ℤ, Some, None, Option, sym, refl, ap, subst, inl, inr, add-one, arith}
-use Rattle.std.proofs.lemmas.Bool.{true≢false}
+use Rattle.std.proofs.Common.{◌≡◌, ℕ, zero, suc, ◌+◌, ◌-◌, ◌≤◌, false, ltb, List, [], ◌∷◌, get_or, drop, set, replicate, ℤ, Some, None, Option, sym, refl, ap, subst, inl, inr, add-one, arith}
+use Rattle.std.proofs.lemmas.Bool.{true≢false, cond_both}
 use Rattle.faults.specs.declared.fault.Fault.{Fault}
 use Rattle.source.specs.Meaning.{Seen, Meaning}
 use Rattle.motor.specs.declared.state.State.{State}
@@ -12,6 +12,7 @@ use Rattle.mill.specs.Calls.{absent, gains_refusal, close_refusal, target_refusa
 use Rattle.mill.specs.Runs.{Command, set_gains, close, kill, target, switch, question, cycle, next}
 use Rattle.mills_law.specs.Moments.{mill_at}
 use Rattle.mills_law.specs.Rest.{AtRest, started, killed, tripped, Closes, NeverClosed}
+use Rattle.mills_law.proofs.Keeping.{unless_both}
 use Rattle.mills_law.proofs.Walking.{call_or_none, next_at, end_at}
 
 abbrev Open : MotorView → Type 0
@@ -27,27 +28,19 @@ set_open (u ∷ vs) zero (suc a) v h k = h
 set_open (u ∷ vs) (suc b) zero v h k = h
 set_open (u ∷ vs) (suc b) (suc a) v h k = set_open vs b a v h (λ e. k (ap suc e))
 
-unless_open : (o : Option Fault) (a : ℕ) (x y : Mill) → NotClosed a x → (o ≡ None → NotClosed a y) → NotClosed a (unless o x y)
-unless_open None a x y h k = k refl
-unless_open (Some f) a x y h k = h
-
 -- a call of the axis b, by what it leaves there
 axis_open : (o : Option Fault) (a b : ℕ) (v : MotorView) (m : Mill) → NotClosed a m → (o ≡ None → b ≡ a → Open (motor_at b m) → Open v) → NotClosed a (unless o m (with_motor b v m))
 axis_open o a b v m h k =
-    unless_open o a m (with_motor b v m) h (λ n. set_open m.motors b a v h (λ e. k n e (subst (λ (i : ℕ). NotClosed i m) (sym e) h)))
+    unless_both o m (with_motor b v m) (NotClosed a) h (λ n. set_open m.motors b a v h (λ e. k n e (subst (λ (i : ℕ). NotClosed i m) (sym e) h)))
 
 stay : (s : State) (x : ℤ) (v : MotorView) → is_closed s ≡ false → Open v → Open (stepped_in s x v)
 stay Killed x v e h = h
 stay Closed x v e h = absurd (true≢false e)
 stay (Tripped c) x v e h = h
 
-either : (t : Bool) (u v : MotorView) → Open u → Open v → Open (cond t u v)
-either true u v h k = h
-either false u v h k = k
-
 steps_open : (s : Seen) (i : ℕ) (vs : List MotorView) (a : ℕ) → Open (get_or vs a fresh) → Open (get_or (stepped_all s i vs) a fresh)
 steps_open s i [] a h = h
-steps_open s i (v ∷ vs) zero h = either (ltb i s.axes) (stepped (position s i v) v) v (stay v.state (position s i v) v h h) h
+steps_open s i (v ∷ vs) zero h = cond_both (ltb i s.axes) (stepped (position s i v) v) v Open (λ _. stay v.state (position s i v) v h h) (λ _. h)
 steps_open s i (v ∷ vs) (suc a) h = steps_open s (i + 1) vs a h
 
 pub cycled_open : (a : ℕ) (r : List ℕ) (m : Mill) → NotClosed a m → NotClosed a (cycled r m)
@@ -61,7 +54,7 @@ next_open a (kill b) m h n = axis_open (absent b m) a b _ m h (λ _ _ _. refl)
 next_open a (target b t) m h n = axis_open (target_refusal b t m) a b _ m h (λ _ _ k. k)
 next_open a (switch b on) m h n = axis_open (absent b m) a b _ m h (λ _ _ k. k)
 next_open a (question b) m h n = h
-next_open a (cycle r k) m h n = unless_open (cycle_refusal r k m) a m (cycled r m) h (λ _. cycled_open a r m h)
+next_open a (cycle r k) m h n = unless_both (cycle_refusal r k m) m (cycled r m) (NotClosed a) h (λ _. cycled_open a r m h)
 
 -- at rest it is not closed
 fresh_open : (n a : ℕ) → Open (get_or (replicate n fresh) a fresh)
@@ -76,7 +69,7 @@ stopped_here (u ∷ vs) (suc a) v = stopped_here vs a v
 
 kills_open : (a : ℕ) (o : Option Fault) (m : Mill) → o ≡ None → NotClosed a (unless o m (with_motor a (stopped Killed (motor_at a m)) m))
 kills_open a None m e = stopped_here m.motors a (motor_at a m)
-kills_open a (Some f) m e = let z : ◌≡◌ {A = ℕ} 0 1 = cc in absurd (omega arith)
+kills_open a (Some f) m e = cc
 
 module _ (a : ℕ) (s : Meaning) (cs : List Command) where
   abbrev OpenThen : ℕ → Type 0

@@ -1,35 +1,21 @@
-//! The lists of calls that two mills are asked.
+//! The calls that one of two mills is asked.
 ghost use Rattle.std.specs.Prelude.{map, IfOk};
+ghost use Rattle.std.specs.List.{AllZip};
 ghost use Rattle.mill.specs.Asked.{command_of};
-ghost use Rattle.mills_law.specs.Pairs.{easts as east_list, shift_of, wests as west_list};
-ghost use Rattle.pair.specs.PairCalls.{AllAlike, pair_of};
+ghost use Rattle.pair.specs.PairCalls.{ActsAlike, pair_of, side_of};
 
-use crate::pair_call::PairCall;
+use crate::pair_call::{PairCall, Side};
 use mill::call::Call;
 use std::alloc::{AllocError, Global};
 
-// East's calls.
-pub(crate) fn easts(heap: Global, calls: &[PairCall]) -> Result<Vec<Call<'_>>, AllocError>
-    ensures { IfOk result (λ v. AllAlike (map command_of v.items) (east_list (map pair_of calls.now))) }
-{
-    let mut asked = Vec::new(heap);
-    for call in calls {
-        asked.push(call.east())?;
-    }
-    Ok(asked)
-}
-
-// West's calls.
-pub(crate) fn wests<'a>(
+// A side's calls.
+pub(crate) fn asked_on<'a>(
     heap: Global,
-    shift: &[i64],
+    side: Side<'_>,
     calls: &'a [PairCall],
 ) -> Result<Vec<Call<'a>>, AllocError>
-    ensures { IfOk result (λ v. AllAlike (map command_of v.items) (west_list (shift_of shift.now) (map pair_of calls.now))) }
+    ensures { IfOk result (λ v. AllZip ActsAlike (map command_of v.items)
+        (map (side_of side.entry) (map pair_of calls.now))) }
 {
-    let mut asked = Vec::new(heap);
-    for call in calls {
-        asked.push(call.west(shift))?;
-    }
-    Ok(asked)
+    calls.iter().map(|call| call.on(side)).collect(heap)
 }

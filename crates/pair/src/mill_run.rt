@@ -25,7 +25,10 @@ pub fn run_mill<S: Source + Drop>(
     source: S,
     calls: &[Call<'_>],
 ) -> Result<MillRun<S>, AllocError>
-    ensures { IfOk result (λ d. (map reply_of d.answers.items ≡ answers (map command_of calls.now) (fresh_mill (S.Source.means source))) × (mill_of S.Source.means d.machine ≡ run (map command_of calls.now) (fresh_mill (S.Source.means source)))) }
+    ensures { let asked = map command_of calls.now in
+        let start = fresh_mill (S.Source.means source) in
+        IfOk result (λ d. (map reply_of d.answers.items ≡ answers asked start)
+        × (mill_of S.Source.means d.machine ≡ run asked start)) }
 {
     let mut machine = Machine::new(source);
     let mut answers = Vec::new(heap);

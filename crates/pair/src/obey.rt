@@ -1,5 +1,5 @@
 //! A call, handed to a machine.
-ghost use Rattle.std.specs.Prelude.{◌≡◌, Ok, Err};
+ghost use Rattle.std.specs.Prelude.{◌≡◌, MatchResult};
 ghost use Rattle.machine.specs.Machines.{mill_of};
 ghost use Rattle.mill.specs.Asked.{command_of, reply_of};
 ghost use Rattle.mill.specs.Runs.{answer, next, cycle as cycle_command};
@@ -17,13 +17,16 @@ fn cycle<S: Source>(
     row: &[u32],
     places: usize,
 ) -> Result<Answer, AllocError>
-    ensures { elim result [ Ok a ↦ (reply_of a ≡ answer (cycle_command row.now places) (mill_of S.Source.means machine.old)) × (mill_of S.Source.means machine.new ≡ next (cycle_command row.now places) (mill_of S.Source.means machine.old)) | Err e ↦ mill_of S.Source.means machine.new ≡ mill_of S.Source.means machine.old ] }
+    ensures { let old = mill_of S.Source.means machine.old in
+        let new = mill_of S.Source.means machine.new in
+        MatchResult result
+        (λ a. (reply_of a ≡ answer (cycle_command row.now places) old)
+        × (new ≡ next (cycle_command row.now places) old))
+        (λ e. new ≡ old) }
 {
     let mut out = vec![in heap; 0i32; places]?;
-    match machine.cycle(row, out.as_mut_slice()) {
-        Ok(()) => Ok(Answer::Outputs(Ok(out))),
-        Err(fault) => Ok(Answer::Outputs(Err(fault))),
-    }
+    let answer = machine.cycle(row, out.as_mut_slice());
+    Ok(Answer::Outputs(answer.map(|()| out)))
 }
 
 /// Hands a call to a machine. Only a cycle takes memory, for its outputs; where there is none the machine is as it was.
@@ -32,7 +35,12 @@ pub fn obey<S: Source>(
     machine: &mut Machine<S>,
     call: Call<'_>,
 ) -> Result<Answer, AllocError>
-    ensures { elim result [ Ok a ↦ (reply_of a ≡ answer (command_of call.entry) (mill_of S.Source.means machine.old)) × (mill_of S.Source.means machine.new ≡ next (command_of call.entry) (mill_of S.Source.means machine.old)) | Err e ↦ mill_of S.Source.means machine.new ≡ mill_of S.Source.means machine.old ] }
+    ensures { let old = mill_of S.Source.means machine.old in
+        let new = mill_of S.Source.means machine.new in
+        MatchResult result
+        (λ a. (reply_of a ≡ answer (command_of call.entry) old)
+        × (new ≡ next (command_of call.entry) old))
+        (λ e. new ≡ old) }
 {
     match call {
         Call::SetGains(axis, settings) => Ok(Answer::Done(machine.set_gains(axis, settings))),

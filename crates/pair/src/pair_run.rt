@@ -5,12 +5,12 @@ ghost use Rattle.mill.specs.Asked.{reply_of};
 ghost use Rattle.mill.specs.Mills.{fresh_mill};
 ghost use Rattle.mill.specs.Runs.{answers, run};
 ghost use Rattle.mills_law.specs.MillsLaw.{MillsLaw, PairLaw};
-ghost use Rattle.mills_law.specs.Pairs.{easts as east_list, shift_of, wests as west_list};
-ghost use Rattle.pair.specs.PairCalls.{pair_of};
+ghost use Rattle.mills_law.specs.Pairs.{shift_of};
+ghost use Rattle.pair.specs.PairCalls.{pair_of, side_of};
 
-use crate::lists::{easts, wests};
+use crate::lists::asked_on;
 use crate::mill_run::{MillRun, run_mill};
-use crate::pair_call::PairCall;
+use crate::pair_call::{PairCall, Side};
 use mills_law::laws::mills_obey;
 use source::source::Source;
 use std::alloc::{AllocError, Global};
@@ -22,34 +22,26 @@ pub struct PairRun<E: Source, W: Source> {
     pub west: MillRun<W>,
 }
 
-// East's run.
-fn run_east<E: Source + Drop>(
+// A side's run.
+fn run_on<S: Source + Drop>(
     heap: Global,
-    source: E,
+    source: S,
+    side: Side<'_>,
     calls: &[PairCall],
-) -> Result<MillRun<E>, AllocError>
-    ensures { IfOk result (λ d. (map reply_of d.answers.items ≡ answers (east_list (map pair_of calls.now)) (fresh_mill (E.Source.means source))) × (mill_of E.Source.means d.machine ≡ run (east_list (map pair_of calls.now)) (fresh_mill (E.Source.means source)))) }
+) -> Result<MillRun<S>, AllocError>
+    ensures { let asked = map (side_of side.entry) (map pair_of calls.now) in
+        let start = fresh_mill (S.Source.means source) in
+        IfOk result (λ d. (map reply_of d.answers.items ≡ answers asked start)
+        × (mill_of S.Source.means d.machine ≡ run asked start)) }
 {
-    let asked = easts(heap, calls)?;
-    run_mill(heap, source, asked.as_slice())
-}
-
-// West's run.
-fn run_west<W: Source + Drop>(
-    heap: Global,
-    source: W,
-    shift: &[i64],
-    calls: &[PairCall],
-) -> Result<MillRun<W>, AllocError>
-    ensures { IfOk result (λ d. (map reply_of d.answers.items ≡ answers (west_list (shift_of shift.now) (map pair_of calls.now)) (fresh_mill (W.Source.means source))) × (mill_of W.Source.means d.machine ≡ run (west_list (shift_of shift.now) (map pair_of calls.now)) (fresh_mill (W.Source.means source)))) }
-{
-    let asked = wests(heap, shift, calls)?;
+    let asked = asked_on(heap, side, calls)?;
     run_mill(heap, source, asked.as_slice())
 }
 
 // The law of any two sources, which it takes no memory to state.
 fn obeyed<E: Source, W: Source>(east: &E, west: &W, shift: &[i64], calls: &[PairCall])
-    ensures { MillsLaw (shift_of shift.now) (E.Source.means east.now) (W.Source.means west.now) (map pair_of calls.now) }
+    ensures { MillsLaw (shift_of shift.now) (E.Source.means east.now) (W.Source.means west.now)
+        (map pair_of calls.now) }
 {
     mills_obey();
 }
@@ -63,10 +55,13 @@ pub fn run_pair<E: Source + Drop, W: Source + Drop>(
     shift: &[i64],
     calls: &[PairCall],
 ) -> Result<PairRun<E, W>, AllocError>
-    ensures { IfOk result (λ d. PairLaw (shift_of shift.now) (E.Source.means east) (W.Source.means west) (map pair_of calls.now) (map reply_of d.east.answers.items) (map reply_of d.west.answers.items) (mill_of E.Source.means d.east.machine) (mill_of W.Source.means d.west.machine)) }
+    ensures { IfOk result (λ d. PairLaw (shift_of shift.now)
+        (E.Source.means east) (W.Source.means west) (map pair_of calls.now)
+        (map reply_of d.east.answers.items) (map reply_of d.west.answers.items)
+        (mill_of E.Source.means d.east.machine) (mill_of W.Source.means d.west.machine)) }
 {
     obeyed(&east, &west, shift, calls);
-    let east = run_east(heap, east, calls)?;
-    let west = run_west(heap, west, shift, calls)?;
+    let east = run_on(heap, east, Side::East, calls)?;
+    let west = run_on(heap, west, Side::West(shift), calls)?;
     Ok(PairRun { east, west })
 }
