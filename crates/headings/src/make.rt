@@ -13,7 +13,7 @@ fn ranged(value: i64, high: u32) -> Result<u32, Fault>
         (λ n. (within high value ≡ true) × (n ≡ unsigned_abs value) × (1 ≤ n) × (n ≤ high))
         (λ f. (within high value ≡ false) × (f ≡ sheet_fault OutOfRange)) }
 {
-    if value < 1 || value > i64::from(high) {
+    if !(1..=i64::from(high)).contains(&value) {
         return Err(Fault::of(Part::Sheet, Refusal::OutOfRange));
     }
     Ok(value as u32)

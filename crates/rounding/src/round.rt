@@ -16,12 +16,11 @@ fn floor(n: i64, d: i64) -> i64
 impl Fraction {
     /// A numerator of at most 2^60 in size over a denominator from 1 to 2^44.
     pub fn new(numerator: i64, denominator: i64) -> Option<Fraction>
-        ensures { MatchOption result (FractionFits numerator denominator → ⊥) (λ f. (f.numerator ≡ numerator) × (f.denominator ≡ denominator)) }
+        ensures { MatchOption result
+            (FractionFits numerator denominator → ⊥)
+            (λ f. (f.numerator ≡ numerator) × (f.denominator ≡ denominator)) }
     {
-        if numerator < -(1 << 60) || numerator > 1 << 60 {
-            return None;
-        }
-        if denominator < 1 || denominator > 1 << 44 {
+        if !(-(1 << 60)..=1 << 60).contains(&numerator) || !(1..=1 << 44).contains(&denominator) {
             return None;
         }
         Some(Fraction {
