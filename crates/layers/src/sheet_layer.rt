@@ -101,10 +101,8 @@ impl<S: Source> Source for SheetLayer<S> {
     }
 
     fn depth(&self) -> usize {
-        match sheet_fit(&self.sheet, &self.below) {
-            Ok(()) => self.below.depth() + 1,
-            Err(_) => self.below.depth(),
-        }
+        let fits = sheet_fit(&self.sheet, &self.below).is_ok();
+        self.below.depth() + usize::from(fits)
     }
 
     fn bare(&self, axis: usize) -> Result<i64, Fault> {
