@@ -1,6 +1,6 @@
 -- A backlash layer keeps what every source keeps.
 use Rattle.std.specs.Prelude.{◌≡◌, ℕ, ◌<◌, Bool, true, false, cond, List, [], ◌∷◌, ℤ, pos, Some, None, Option, nat_lt, refl}
-use Rattle.std.proofs.Common.{sym, ◌∙◌, ap, arith}
+use Rattle.std.proofs.Common.{sym, ◌∙◌, ap}
 use Rattle.std.proofs.lemmas.Bool.{ltb-true}
 use Rattle.rounding.specs.Bounds.{Within}
 use Rattle.faults.specs.declared.fault.Fault.{Fault}
@@ -68,7 +68,7 @@ there_of : (q : Option Fault) (c : Bool) (b : Backlash) (x : ℤ) (m : Meaning) 
     → laid q b.axis (λ rs. (steps b (fresh (cond c x (pos 0))) (trail b.axis m rs)).amount) m ≡ laid q b.axis (λ rs. (steps b (fresh x) (trail b.axis m rs)).amount) m
 there_of q true b x m h = refl
 there_of (Some f) false b x m h = refl
-there_of None false b x m h = let z : false ≡ true = h refl in let w : ◌≡◌ {A = ℕ} 0 1 = cc in absurd (omega arith)
+there_of None false b x m h = let z : false ≡ true = h refl in cc
 
 -- an axis that is not there has no backlash
 pub put_standing : (b : Backlash) (m : Meaning) → standing b (fresh (position_seen (m []) b.axis)) m ≡ backlash_put b m

@@ -1,35 +1,49 @@
 -- The rule of backlash, over the bare positions of one axis.
-use Rattle.std.specs.Prelude.{Bool, true, false, cond, ◌&&◌, List, [], ◌∷◌, ℤ, pos, negsuc, ◌+ℤ◌, ◌-ℤ◌, ◌≤ℤ◌, int_le, int_lt}
+use Rattle.std.specs.Prelude.{Bool, cond, ◌&&◌, List, [], ◌∷◌, ℤ, pos, negsuc, ◌+ℤ◌, ◌-ℤ◌, ◌≤ℤ◌, int_le, int_lt}
 use Rattle.rounding.specs.Bounds.{Within}
 use Rattle.std.specs.Int.{int_max, int_min}
 use Rattle.backlash.specs.declared.backlash.Backlash.{Backlash}
+use Rattle.backlash.specs.declared.backlash.Direction.{Direction}
+use Rattle.backlash.specs.declared.backlash.Direction.TheVariants.{Up, Down}
 use Rattle.backlash.specs.declared.backlash.TakeUp.{TakeUp}
 
 -- it starts upward, with nothing taken up
 abbrev pub fresh : ℤ → TakeUp
-fresh x = record { upward = true; extreme = x; amount = pos 0 }
+fresh x = record { direction = Up; extreme = x; amount = pos 0 }
 
 -- an amount z that moves by at most r towards g
 abbrev pub toward : ℤ → ℤ → ℤ → ℤ
 toward r g z = cond (int_lt z g) (int_min (z +ℤ r) g) (int_max (z -ℤ r) g)
 
 -- upward the amount goes to 0, downward to the size
-abbrev pub upward : Backlash → ℤ → ℤ → TakeUp
-upward b x z = record { upward = true; extreme = x; amount = toward b.rate (pos 0) z }
+abbrev pub goal_of : Direction → Backlash → ℤ
+goal_of Up b = pos 0
+goal_of Down b = b.size
 
-abbrev pub downward : Backlash → ℤ → ℤ → TakeUp
-downward b x z = record { upward = false; extreme = x; amount = toward b.rate b.size z }
+abbrev pub going : Direction → Backlash → ℤ → ℤ → TakeUp
+going d b x z = record { direction = d; extreme = x; amount = toward b.rate (goal_of d b) z }
 
--- upward, with the extreme x that is not below y: further back than the hysteresis it reverses
-abbrev pub topped : Backlash → ℤ → ℤ → ℤ → TakeUp
-topped b x z y = cond (int_lt y (x -ℤ b.hysteresis)) (downward b y z) (upward b x z)
+abbrev pub reversed : Direction → Direction
+reversed Up = Down
+reversed Down = Up
 
-abbrev pub bottomed : Backlash → ℤ → ℤ → ℤ → TakeUp
-bottomed b x z y = cond (int_lt (x +ℤ b.hysteresis) y) (upward b y z) (downward b x z)
+-- which of two positions is farther along
+abbrev pub farther : Direction → ℤ → ℤ → ℤ
+farther Up x y = int_max x y
+farther Down x y = int_min x y
+
+-- y lies farther back from the extreme x than h
+abbrev pub is_back : Direction → ℤ → ℤ → ℤ → Bool
+is_back Up h x y = int_lt y (x -ℤ h)
+is_back Down h x y = int_lt (x +ℤ h) y
+
+-- farther back from the extreme x than the hysteresis it reverses there, and else it goes on
+abbrev pub gone : Direction → Backlash → ℤ → ℤ → ℤ → TakeUp
+gone d b x z y = cond (is_back d b.hysteresis x y) (going (reversed d) b y z) (going d b x z)
 
 -- the axis is at y after an accepted row
 abbrev pub stepped : Backlash → TakeUp → ℤ → TakeUp
-stepped b s y = cond s.upward (topped b (int_max s.extreme y) s.amount y) (bottomed b (int_min s.extreme y) s.amount y)
+stepped b s y = gone s.direction b (farther s.direction s.extreme y) s.amount y
 
 abbrev pub steps : Backlash → TakeUp → List ℤ → TakeUp
 steps b s [] = s
@@ -56,8 +70,3 @@ pub record InRange (b : Backlash) : Type 0 where
   pub fast : b.rate ≤ℤ pos 32767
   pub least : pos 0 ≤ℤ b.hysteresis
   pub most : b.hysteresis ≤ℤ pos 32767
-
--- what is kept of a take-up from row to row
-pub record Kept (s : TakeUp) : Type 0 where
-  pub near : Within 32767 s.amount
-  pub held : Within 1099511627776 s.extreme

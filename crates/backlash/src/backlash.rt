@@ -9,10 +9,17 @@ pub struct Backlash {
     pub hysteresis: i64,
 }
 
+/// Which way an axis goes.
+#[derive(Clone, Copy)]
+pub enum Direction {
+    Up,
+    Down,
+}
+
 /// The direction of the axis, its extreme in that direction, and the amount that is taken up.
 #[derive(Clone, Copy)]
 pub struct TakeUp {
-    pub upward: bool,
+    pub direction: Direction,
     pub extreme: i64,
     pub amount: i64,
 }

@@ -1,137 +1,122 @@
 //! The rule of backlash, over one position after another.
-ghost use Rattle.std.specs.Prelude.{◌≡◌, true, pos, ◌+ℤ◌, ◌-ℤ◌, ◌≤ℤ◌};
+ghost use Rattle.std.specs.Prelude.{◌≡◌, ◌-ℤ◌, MatchResult, Some, None};
 ghost use Rattle.rounding.specs.Bounds.{Within};
-ghost use Rattle.backlash.specs.TakeUps.{toward as goes_toward, upward as goes_up, downward as goes_down, topped, bottomed, stepped as steps_to, between as lies_between, each_range, ranges, InRange, Kept};
+ghost use Rattle.backlash.specs.TakeUps.{reversed as turned, farther as lies_farther};
+ghost use Rattle.backlash.specs.TakeUps.{is_back as lies_back, toward as goes_toward, goal_of};
+ghost use Rattle.backlash.specs.TakeUps.{going as goes, stepped as steps_to, InRange};
+ghost use Rattle.backlash.specs.BacklashLayers.{range_fit};
 
-use crate::backlash::{Backlash, TakeUp};
+use crate::backlash::{Backlash, Direction, TakeUp};
+use faults::fault::{Fault, Part, Refusal};
 
-fn between(low: i64, z: i64, high: i64) -> bool
-    ensures { result ≡ lies_between low z high }
-{
-    low <= z && z <= high
+/// A backlash whose numbers are in range, so that no step of its rule overflows.
+#[derive(Clone, Copy)]
+pub(crate) struct Rule {
+    backlash: Backlash,
+    ghost in_range: { InRange backlash },
 }
 
-/// Whether the numbers of a backlash are in range.
-pub(crate) fn in_range(backlash: &Backlash) -> bool
-    ensures { result ≡ each_range backlash.now }
+// How far a position lies above another, in a type that holds every such number.
+fn above(low: i64, high: i64) -> i128
+    ensures { result ≡ high -ℤ low }
 {
-    between(-32_767, backlash.size, 32_767)
-        && between(1, backlash.rate, 32_767)
-        && between(0, backlash.hysteresis, 32_767)
+    i128::from(high) - i128::from(low)
 }
 
-// The sum and the difference of a position or an amount and a small number, each a step of its own.
-fn raised(amount: i64, rate: i64) -> i64
-    requires amount { Within 1099511627776 amount }
-    requires rate { Within 32767 rate }
-    ensures { result ≡ amount +ℤ rate }
-{
-    amount + rate
-}
+impl Direction {
+    fn reversed(self) -> Direction
+        ensures { result ≡ turned self }
+    {
+        match self {
+            Direction::Up => Direction::Down,
+            Direction::Down => Direction::Up,
+        }
+    }
 
-fn lowered(amount: i64, rate: i64) -> i64
-    requires amount { Within 1099511627776 amount }
-    requires rate { Within 32767 rate }
-    ensures { result ≡ amount -ℤ rate }
-{
-    amount - rate
-}
+    // Which of two positions is farther along.
+    fn farther(self, x: i64, y: i64) -> i64
+        ensures { result ≡ lies_farther self x y }
+    {
+        match self {
+            Direction::Up => x.max(y),
+            Direction::Down => x.min(y),
+        }
+    }
 
-// An amount that moves by at most `rate` towards `goal`.
-fn toward(rate: i64, goal: i64, amount: i64) -> i64
-    requires rate { (pos 1 ≤ℤ rate) × (rate ≤ℤ pos 32767) }
-    requires goal { Within 32767 goal }
-    requires amount { Within 32767 amount }
-    ensures { result ≡ goes_toward rate goal amount }
-{
-    if amount < goal {
-        raised(amount, rate).min(goal)
-    } else {
-        lowered(amount, rate).max(goal)
+    // Whether a position lies farther back from the extreme than the hysteresis.
+    fn is_back(self, hysteresis: i64, extreme: i64, position: i64) -> bool
+        ensures { result ≡ lies_back self hysteresis extreme position }
+    {
+        match self {
+            Direction::Up => above(position, extreme) > i128::from(hysteresis),
+            Direction::Down => above(extreme, position) > i128::from(hysteresis),
+        }
     }
 }
 
-fn upward(backlash: &Backlash, extreme: i64, amount: i64) -> TakeUp
-    requires ranges { InRange backlash.now }
-    requires amount { Within 32767 amount }
-    ensures { result ≡ goes_up backlash.now extreme amount }
-{
-    TakeUp {
-        upward: true,
-        extreme,
-        amount: toward(backlash.rate, 0, amount),
+/// The rule of a backlash, or that a number of it is out of range.
+impl TryFrom<Backlash> for Rule {
+    type Error = Fault;
+
+    ghost try_from_gives = { λ b r. MatchResult r
+        (λ rule. (rule.backlash ≡ b) × (range_fit b ≡ None))
+        (λ fault. range_fit b ≡ Some fault) };
+
+    #[tactic(auto, unfolding(crate::specs::TakeUps::ranges))]
+    fn try_from(backlash: Backlash) -> Result<Rule, Fault> {
+        match (backlash.size, backlash.rate, backlash.hysteresis) {
+            (-32_767..=32_767, 1..=32_767, 0..=32_767) => Ok(Rule { backlash }),
+            _ => Err(Fault::of(Part::Source, Refusal::OutOfRange)),
+        }
     }
 }
 
-fn downward(backlash: &Backlash, extreme: i64, amount: i64) -> TakeUp
-    requires ranges { InRange backlash.now }
-    requires amount { Within 32767 amount }
-    ensures { result ≡ goes_down backlash.now extreme amount }
-{
-    TakeUp {
-        upward: false,
-        extreme,
-        amount: toward(backlash.rate, backlash.size, amount),
+impl Rule {
+    // An amount that moves by at most the rate towards `goal`.
+    fn toward(self, goal: i64, amount: i64) -> i64
+        ensures { result ≡ goes_toward self.backlash.rate goal amount }
+    {
+        if amount < goal {
+            amount.saturating_add(self.backlash.rate).min(goal)
+        } else {
+            amount.saturating_sub(self.backlash.rate).max(goal)
+        }
     }
-}
 
-// Going up, at an extreme that is not below the position.
-fn at_top(backlash: &Backlash, extreme: i64, amount: i64, position: i64) -> TakeUp
-    requires ranges { InRange backlash.now }
-    requires amount { Within 32767 amount }
-    requires extreme { Within 1099511627776 extreme }
-    ensures { result ≡ topped backlash.now extreme amount position }
-{
-    if position < lowered(extreme, backlash.hysteresis) {
-        return downward(backlash, position, amount);
+    // Where the amount goes: to nothing upward, to the size downward.
+    fn goal(self, direction: Direction) -> i64
+        ensures { result ≡ goal_of direction self.backlash }
+    {
+        match direction {
+            Direction::Up => 0,
+            Direction::Down => self.backlash.size,
+        }
     }
-    upward(backlash, extreme, amount)
-}
 
-// Going down, at an extreme that is not above the position.
-fn at_bottom(backlash: &Backlash, extreme: i64, amount: i64, position: i64) -> TakeUp
-    requires ranges { InRange backlash.now }
-    requires amount { Within 32767 amount }
-    requires extreme { Within 1099511627776 extreme }
-    ensures { result ≡ bottomed backlash.now extreme amount position }
-{
-    if position > raised(extreme, backlash.hysteresis) {
-        return upward(backlash, position, amount);
+    // The take-up after a row that leaves the axis going this way.
+    fn going(self, direction: Direction, extreme: i64, amount: i64) -> TakeUp
+        ensures { result ≡ goes direction self.backlash extreme amount }
+    {
+        TakeUp {
+            direction,
+            extreme,
+            amount: self.toward(self.goal(direction), amount),
+        }
     }
-    downward(backlash, extreme, amount)
-}
 
-/// Where the take-up stands once the axis is at `position`.
-pub(crate) fn stepped(backlash: &Backlash, stand: TakeUp, position: i64) -> TakeUp
-    requires ranges { InRange backlash.now }
-    requires stand { Kept stand }
-    requires position { Within 1099511627776 position }
-    ensures { result ≡ steps_to backlash.now stand position }
-{
-    if stand.upward {
-        at_top(
-            backlash,
-            stand.extreme.max(position),
-            stand.amount,
-            position,
-        )
-    } else {
-        at_bottom(
-            backlash,
-            stand.extreme.min(position),
-            stand.amount,
-            position,
-        )
+    /// Where the take-up stands once the axis is at `position`.
+    pub(crate) fn stepped(self, stand: TakeUp, position: i64) -> TakeUp
+        ensures value { result ≡ steps_to self.backlash stand position }
+        ensures near { Within 32767 stand.amount → Within 32767 result.amount }
+    {
+        let extreme = stand.direction.farther(stand.extreme, position);
+        if stand
+            .direction
+            .is_back(self.backlash.hysteresis, extreme, position)
+        {
+            self.going(stand.direction.reversed(), position, stand.amount)
+        } else {
+            self.going(stand.direction, extreme, stand.amount)
+        }
     }
-}
-
-/// The same for a backlash that is in range, with the bounds that the next step asks for.
-pub(crate) fn next(backlash: &Backlash, stand: TakeUp, position: i64) -> TakeUp
-    requires ranges { ranges backlash.now ≡ true }
-    requires stand { Kept stand }
-    requires position { Within 1099511627776 position }
-    ensures value { result ≡ steps_to backlash.now stand position }
-    ensures kept { Kept result }
-{
-    stepped(backlash, stand, position)
 }

@@ -15,8 +15,7 @@ use Rattle.gauges.specs.declared.gauge.Gauge.TheVariants.{Encoder, Scale}
 use Rattle.banks.specs.Axes.{axis_at}
 use Rattle.banks.specs.Bank.{first_bad, row_bad, placed, length_refusal, unless, standing, bank_seen}
 use Rattle.banks.specs.BankLaws.{Shorter, TurnsShortest, TurnsOnly, Goes, AcceptedMoves, RefusedStays, BankLaws}
-use Rattle.banks.specs.Walking.{some_none}
-use Rattle.banks.specs.BankProofs.{refused_none, reading_good, all_good, overlaid_at, standing_near}
+use Rattle.banks.specs.BankProofs.{some_none, refused_none, reading_good, all_good, overlaid_at, standing_near}
 
 -- the centre of a residue: itself, or a turn less
 centred_is : (P : ℤ → Type 0) (m : ℤ) → (m <ℤ pos 8388608 → P m) → (pos 8388608 ≤ℤ m → P (m -ℤ pos 16777216)) → P (centred m)

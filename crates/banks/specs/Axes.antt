@@ -1,14 +1,11 @@
 -- The axes of a bank, in a list.
-use Rattle.std.specs.Prelude.{ℕ, List, [], ◌∷◌, replicate, pos, slice_index_or}
+use Rattle.std.specs.Prelude.{ℕ, List, [], ◌∷◌, pos, slice_index_or}
 use Rattle.rounding.specs.Bounds.{Within}
 use Rattle.gauges.specs.declared.gauge.Axis.{Axis}
 
 -- an axis that was never read
 abbrev pub blank : Axis
 blank = record { last = 0; position = pos 0 }
-
-abbrev pub blanks : List Axis
-blanks = replicate 8 blank
 
 abbrev pub axis_at : List Axis → ℕ → Axis
 axis_at held i = slice_index_or held i blank

@@ -1,5 +1,5 @@
 -- A bank: which rows and which set-ups it refuses, and where it stands after the others.
-use Rattle.std.specs.Prelude.{ℕ, ◌+◌, cond, List, [], ◌∷◌, length, ℤ, pos, Some, None, Ok, Err, Option, Result, ◌==◌, nat_lt}
+use Rattle.std.specs.Prelude.{ℕ, ◌+◌, cond, List, [], ◌∷◌, length, map, ℤ, pos, Some, None, Ok, Err, Option, Result, ◌==◌, nat_lt}
 use Rattle.faults.specs.Faults.{fault_of, on_axis}
 use Rattle.faults.specs.declared.fault.Fault.{Fault}
 use Rattle.faults.specs.declared.fault.Refusal.{Refusal}
@@ -9,7 +9,7 @@ use Rattle.source.specs.Meaning.{Seen, Meaning, Rows, no_axis}
 use Rattle.gauges.specs.Gauges.{start, moved, width_refusal, reading_refusal, jump_refusal}
 use Rattle.gauges.specs.declared.gauge.Axis.{Axis}
 use Rattle.gauges.specs.declared.gauge.Gauge.{Gauge}
-use Rattle.banks.specs.Axes.{axis_at, blanks, overlaid}
+use Rattle.banks.specs.Axes.{axis_at, overlaid}
 
 -- a refusal of the whole, or else what comes next
 abbrev pub refused : Option Refusal → Option Fault → Option Fault
@@ -40,7 +40,7 @@ row_bad g most held i x = reading_refusal g most (axis_at held i) x
 
 -- the axes after their first readings, and after a row
 abbrev pub started : Gauge → List ℕ → List Axis
-started g xs = overlaid (λ _ x. start g x) blanks xs
+started g xs = map (start g) xs
 
 abbrev pub placed : Gauge → List Axis → List ℕ → List Axis
 placed g held row = overlaid (moved g) held row

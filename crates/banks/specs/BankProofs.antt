@@ -12,7 +12,9 @@ use Rattle.gauges.specs.declared.gauge.Gauge.{Gauge}
 use Rattle.rounding.specs.Bounds.{Within}
 use Rattle.banks.specs.Axes.{axis_at, AllNear, overlaid}
 use Rattle.banks.specs.Bank.{refused, refused_at, first_bad, row_bad, placed, length_refusal, bank_refusal, unless, standing, bank_means}
-use Rattle.banks.specs.Walking.{some_none}
+
+pub some_none : {X : Type 0} {A : Type 0} (x : X) → ◌≡◌ {A = Option X} (Some x) None → A
+some_none x e = cc
 
 chosen_none : {X : Type 0} (b : Bool) (r : X) (o : Option X) → cond b (Some r) o ≡ None → (b ≡ false) × (o ≡ None)
 chosen_none true r o e = some_none r e
@@ -27,8 +29,7 @@ refused_at_none i None more e = (refl, e)
 refused_at_none i (Some r) more e = some_none _ e
 
 pub not_over : (n : ℕ) (z : ℤ) → exceeds n z ≡ false → Within n z
-not_over n (pos a) e = let h : a ≤ n = ltb-false n a e in (omega (arith, ints), omega (arith, ints))
-not_over n (negsuc a) e = let h : suc a ≤ n = ltb-false n (suc a) e in (omega (arith, ints), omega (arith, ints))
+not_over n z e = grind (arith, ints)
 
 -- what an accepted reading keeps to
 pub reading_good : (g : Gauge) (most : ℕ) (a : Axis) (x : ℕ) → reading_refusal g most a x ≡ None

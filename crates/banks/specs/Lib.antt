@@ -3,4 +3,3 @@ pub mod Bank
 pub mod BankLaws
 pub mod Cases
 pub mod BankProofs
-pub mod Walking

@@ -1,35 +1,34 @@
 //! What a bank answers.
-ghost use Rattle.std.specs.Prelude.{◌≡◌, ◌<◌, None};
+ghost use Rattle.std.specs.Prelude.{◌≡◌, None, length};
+ghost use Rattle.gauges.specs.Gauges.{outcome};
 ghost use Rattle.banks.specs.Bank.{bank_means, absence, refused, length_refusal};
 ghost use Rattle.source.specs.Meaning.{answer_of};
 ghost use Rattle.banks.specs.Axes.{axis_at};
 ghost use Rattle.banks.specs.BankProofs.{bank_lawful};
 
 use crate::bank::Bank;
+use crate::walk::move_axes;
 use faults::fault::{Fault, Part, Refusal};
+use gauges::gauge::Axis;
 use source::source::Source;
 
 impl Bank {
-    fn check_axis(&self, axis: usize) -> Result<(), Fault>
-        ensures { result ≡ answer_of (absence self.now.count axis) }
+    // An axis, or that the bank has none of that number.
+    fn axis(&self, axis: usize) -> Result<Axis, Fault>
+        ensures { let held = self.now.axes.items in
+            result ≡ outcome (absence (length held) axis) (axis_at held axis) }
     {
-        if axis >= self.count {
-            return Err(Fault::of(Part::Source, Refusal::NoSuchAxis).on_axis(axis));
-        }
-        Ok(())
-    }
-
-    fn position(&self, axis: usize) -> i64
-        requires { axis < self.now.count }
-        ensures { result ≡ (axis_at self.now.axes axis).position }
-    {
-        self.axes[axis].position
+        self.axes
+            .get(axis)
+            .copied()
+            .ok_or(Fault::of(Part::Source, Refusal::NoSuchAxis).on_axis(axis))
     }
 
     fn check_length(&self, row: &[u32]) -> Result<(), Fault>
-        ensures { result ≡ answer_of (refused (length_refusal self.now.count row.now) None) }
+        ensures { result
+            ≡ answer_of (refused (length_refusal (length self.now.axes.items) row.now) None) }
     {
-        if row.len() != self.count {
+        if row.len() != self.axes.len() {
             return Err(Fault::of(Part::Source, Refusal::WrongLength));
         }
         Ok(())
@@ -37,12 +36,13 @@ impl Bank {
 }
 
 impl Source for Bank {
-    ghost means = { λ b. bank_means b.gauge b.count b.jump b.axes };
+    ghost means = { λ b. bank_means b.gauge (length b.axes.items) b.jump b.axes.items };
 
-    ghost lawful = { λ s. bank_lawful s.gauge s.count s.jump s.axes s.few s.near };
+    ghost lawful = { λ s.
+        bank_lawful s.gauge (length s.axes.items) s.jump s.axes.items s.few s.near };
 
     fn axes(&self) -> usize {
-        self.count
+        self.axes.len()
     }
 
     fn depth(&self) -> usize {
@@ -50,18 +50,17 @@ impl Source for Bank {
     }
 
     fn bare(&self, axis: usize) -> Result<i64, Fault> {
-        self.check_axis(axis)?;
-        Ok(self.position(axis))
+        Ok(self.axis(axis)?.position)
     }
 
     fn offset(&self, axis: usize) -> Result<i64, Fault> {
-        self.check_axis(axis)?;
+        self.axis(axis)?;
         Ok(0)
     }
 
     fn advance(&mut self, row: &[u32]) -> Result<(), Fault> {
         self.check_length(row)?;
-        self.axes = self.move_axes(row)?;
+        self.axes = move_axes(self.gauge, self.jump, &self.axes, row)?;
         Ok(())
     }
 }

@@ -1,71 +1,44 @@
 //! A bank, made and set up.
-ghost use Rattle.std.specs.Prelude.{◌≡◌, length, None, unsigned_abs};
+ghost use Rattle.std.specs.Prelude.{◌≡◌, [], None, unsigned_abs};
 ghost use Rattle.gauges.specs.Gauges.{outcome, jump_refusal};
-ghost use Rattle.gauges.specs.declared.gauge.Gauge.TheVariants.{Encoder, Scale};
-ghost use Rattle.banks.specs.Axes.{blanks};
 ghost use Rattle.banks.specs.Bank.{refused, count_refusal, set_up_refusal, started, unless};
 ghost use Rattle.source.specs.Meaning.{answer_of};
 
-use crate::bank::Bank;
+use crate::bank::{Bank, MOST};
 use crate::walk::start_axes;
+use arrayvec::ArrayVec;
 use faults::fault::{Fault, Part, Refusal};
-use gauges::gauge::{Axis, Gauge};
+use gauges::gauge::Gauge;
 
 fn check_jump(gauge: Gauge, jump: i64) -> Result<u32, Fault>
     ensures { result ≡ outcome (refused (jump_refusal gauge jump) None) (unsigned_abs jump) }
 {
-    match gauge.jump_limit(jump) {
-        Ok(limit) => Ok(limit),
-        Err(refusal) => Err(Fault::of(Part::Source, refusal)),
-    }
+    gauge
+        .jump_limit(jump)
+        .map_err(|refusal| Fault::of(Part::Source, refusal))
 }
 
 fn check_count(readings: &[u32]) -> Result<(), Fault>
     ensures { result ≡ answer_of (refused (count_refusal readings.now) None) }
 {
-    if readings.len() > 8 {
+    if readings.len() > MOST {
         return Err(Fault::of(Part::Source, Refusal::OutOfRange));
     }
     Ok(())
 }
 
 impl Bank {
-    // A bank that is not set up.
-    fn unset(gauge: Gauge) -> Bank
+    /// A bank that is not set up: it has no axes.
+    pub fn new(gauge: Gauge) -> Bank
         ensures gauge { result.gauge ≡ gauge }
-        ensures count { result.count ≡ 0 }
         ensures jump { result.jump ≡ 0 }
-        ensures axes { result.axes ≡ blanks }
+        ensures axes { result.axes.items ≡ [] }
     {
         Bank {
             gauge,
-            count: 0,
             jump: 0,
-            axes: [Axis {
-                last: 0,
-                position: 0,
-            }; 8],
+            axes: ArrayVec::new(),
         }
-    }
-
-    /// A bank of encoders that is not set up: it has no axes.
-    pub fn encoders() -> Bank
-        ensures gauge { result.gauge ≡ Encoder }
-        ensures count { result.count ≡ 0 }
-        ensures jump { result.jump ≡ 0 }
-        ensures axes { result.axes ≡ blanks }
-    {
-        Bank::unset(Gauge::Encoder)
-    }
-
-    /// A bank of scales that is not set up: it has no axes.
-    pub fn scales() -> Bank
-        ensures gauge { result.gauge ≡ Scale }
-        ensures count { result.count ≡ 0 }
-        ensures jump { result.jump ≡ 0 }
-        ensures axes { result.axes ≡ blanks }
-    {
-        Bank::unset(Gauge::Scale)
     }
 
     /// Gives the bank an axis for each reading, and its jump limit. A refused set-up leaves the bank as it was; an
@@ -73,19 +46,16 @@ impl Bank {
     pub fn set_up(&mut self, readings: &[u32], jump: i64) -> Result<(), Fault>
         ensures answer { result ≡ answer_of (set_up_refusal self.old.gauge readings.now jump) }
         ensures gauge { self.new.gauge ≡ self.old.gauge }
-        ensures count { self.new.count ≡ unless (set_up_refusal self.old.gauge readings.now jump) self.old.count (length readings.now) }
-        ensures jump { self.new.jump ≡ unless (set_up_refusal self.old.gauge readings.now jump) self.old.jump (unsigned_abs jump) }
-        ensures axes { self.new.axes ≡ unless (set_up_refusal self.old.gauge readings.now jump) self.old.axes (started self.old.gauge readings.now) }
+        ensures jump { let bad = set_up_refusal self.old.gauge readings.now jump in
+            self.new.jump ≡ unless bad self.old.jump (unsigned_abs jump) }
+        ensures axes { let bad = set_up_refusal self.old.gauge readings.now jump in
+            let fresh = started self.old.gauge readings.now in
+            self.new.axes.items ≡ unless bad self.old.axes.items fresh }
     {
         let limit = check_jump(self.gauge, jump)?;
         check_count(readings)?;
-        let axes = start_axes(self.gauge, readings)?;
-        *self = Bank {
-            gauge: self.gauge,
-            count: readings.len(),
-            jump: limit,
-            axes,
-        };
+        self.axes = start_axes(self.gauge, readings)?;
+        self.jump = limit;
         Ok(())
     }
 }

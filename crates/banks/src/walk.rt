@@ -4,7 +4,8 @@ ghost use Rattle.gauges.specs.Gauges.{outcome};
 ghost use Rattle.banks.specs.Axes.{AllNear};
 ghost use Rattle.banks.specs.Bank.{named, first_bad, start_bad, row_bad, started, placed};
 
-use crate::bank::Bank;
+use crate::bank::MOST;
+use arrayvec::ArrayVec;
 use faults::fault::{Fault, Part, Refusal};
 use gauges::gauge::{Axis, Gauge};
 
@@ -12,39 +13,42 @@ use gauges::gauge::{Axis, Gauge};
 fn name(said: Result<Axis, Refusal>, axis: usize) -> Result<Axis, Fault>
     ensures { result ≡ named axis said }
 {
-    match said {
-        Ok(read) => Ok(read),
-        Err(refusal) => Err(Fault::of(Part::Source, refusal).on_axis(axis)),
-    }
+    said.map_err(|refusal| Fault::of(Part::Source, refusal).on_axis(axis))
 }
 
 // The axes at their first readings, or the first bad reading.
-pub(crate) fn start_axes(gauge: Gauge, readings: &[u32]) -> Result<[Axis; 8], Fault>
+pub(crate) fn start_axes(gauge: Gauge, readings: &[u32]) -> Result<ArrayVec<Axis, MOST>, Fault>
     requires { length readings.now ≤ 8 }
-    ensures value { result ≡ outcome (first_bad (start_bad gauge) 0 readings.now) (started gauge readings.now) }
-    ensures near { IfOk result AllNear }
+    ensures value { let bad = first_bad (start_bad gauge) 0 readings.now in
+        result ≡ outcome bad (record { items = started gauge readings.now }) }
+    ensures near { IfOk result (λ axes. AllNear axes.items) }
 {
-    let mut axes = [Axis {
-        last: 0,
-        position: 0,
-    }; 8];
+    let mut axes = ArrayVec::new();
     for (axis, reading) in readings.iter().enumerate() {
-        axes[axis] = name(gauge.start(*reading), axis)?;
+        axes.push(name(gauge.start(*reading), axis)?);
     }
     Ok(axes)
 }
 
-impl Bank {
-    // The axes after the row, or its first bad reading: nothing is stored here, so that a refused row moves none.
-    pub(crate) fn move_axes(&self, row: &[u32]) -> Result<[Axis; 8], Fault>
-        requires { length row.now ≤ 8 }
-        ensures value { result ≡ outcome (first_bad (row_bad self.now.gauge self.now.jump self.now.axes) 0 row.now) (placed self.now.gauge self.now.axes row.now) }
-        ensures near { IfOk result AllNear }
-    {
-        let mut axes = self.axes;
-        for (axis, reading) in row.iter().enumerate() {
-            axes[axis] = name(self.gauge.read(self.jump, self.axes[axis], *reading), axis)?;
-        }
-        Ok(axes)
+// The axes after a row of their number, or its first bad reading: nothing is stored here, so that a
+// refused row moves none.
+// Not one walk over a closure that reads: its contract would have to say of each call what it gave.
+pub(crate) fn move_axes(
+    gauge: Gauge,
+    jump: u32,
+    held: &[Axis],
+    row: &[u32],
+) -> Result<ArrayVec<Axis, MOST>, Fault>
+    requires few { length held.now ≤ 8 }
+    requires same { length row.now ≡ length held.now }
+    ensures value { let bad = first_bad (row_bad gauge jump held.now) 0 row.now in
+        result ≡ outcome bad (record { items = placed gauge held.now row.now }) }
+    ensures count { IfOk result (λ axes. length axes.items ≡ length held.now) }
+    ensures near { IfOk result (λ axes. AllNear axes.items) }
+{
+    let mut axes = ArrayVec::new();
+    for (axis, reading) in row.iter().enumerate() {
+        axes.push(name(gauge.read(jump, held[axis], *reading), axis)?);
     }
+    Ok(axes)
 }

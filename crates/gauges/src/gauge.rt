@@ -8,7 +8,7 @@ pub enum Gauge {
 }
 
 /// One axis: its last reading, and its bare position in sixteenths of a count.
-#[derive(Clone, Copy)]
+#[derive(Clone, Copy, Default)]
 pub struct Axis {
     pub last: u32,
     pub position: i64,

@@ -1,8 +1,9 @@
 //! An axis at another reading.
-ghost use Rattle.std.specs.Prelude.{◌≡◌};
-ghost use Rattle.gauges.specs.Gauges.{outcome, too_wide, moved, reading_refusal};
+ghost use Rattle.std.specs.Prelude.{◌≡◌, IfOk};
+ghost use Rattle.rounding.specs.Bounds.{Within};
+ghost use Rattle.gauges.specs.Gauges.{outcome, width_refusal, moved, reading_refusal};
 
-use crate::arithmetic::is_over;
+use crate::arithmetic::TURN;
 use crate::gauge::{Axis, Gauge};
 use faults::fault::Refusal;
 
@@ -10,33 +11,32 @@ use faults::fault::Refusal;
 const POSITION_LIMIT: u64 = 1_099_511_627_776;
 
 impl Gauge {
-    // Has the reading more bits than the gauge?
-    pub(crate) fn is_too_wide(self, reading: u32) -> bool
-        ensures { result ≡ too_wide self reading }
+    // Refuses a reading of more bits than the gauge has.
+    pub(crate) fn check_width(self, reading: u32) -> Result<(), Refusal>
+        ensures { result ≡ outcome (width_refusal self reading) tt }
     {
         match self {
-            Gauge::Encoder => reading >= 16_777_216,
-            Gauge::Scale => false,
+            Gauge::Encoder if reading >= TURN => Err(Refusal::ReadingTooWide),
+            _ => Ok(()),
         }
     }
 
     /// The axis after another reading, or why that is refused: by its width, its jump, or where it puts the axis.
     pub fn read(self, jump: u32, axis: Axis, reading: u32) -> Result<Axis, Refusal>
-        ensures { result ≡ outcome (reading_refusal self jump axis reading) (moved self axis reading) }
+        ensures value { result
+            ≡ outcome (reading_refusal self jump axis reading) (moved self axis reading) }
+        ensures near { IfOk result (λ axis. Within 1099511627776 axis.position) }
     {
-        if self.is_too_wide(reading) {
-            return Err(Refusal::ReadingTooWide);
-        }
-        if is_over(self.travel(axis, reading), u64::from(jump)) {
+        self.check_width(reading)?;
+        if self.travel(axis, reading).unsigned_abs() > u128::from(jump) {
             return Err(Refusal::JumpTooLarge);
         }
-        let position = self.place(axis, reading);
-        if is_over(position, POSITION_LIMIT) {
-            return Err(Refusal::PositionLimit);
+        match i64::try_from(self.place(axis, reading)) {
+            Ok(position) if position.unsigned_abs() <= POSITION_LIMIT => Ok(Axis {
+                last: reading,
+                position,
+            }),
+            _ => Err(Refusal::PositionLimit),
         }
-        Ok(Axis {
-            last: reading,
-            position: position as i64,
-        })
     }
 }

@@ -3,7 +3,6 @@ ghost use Rattle.std.specs.Prelude.{◌≡◌, pos, IfOk, unsigned_abs};
 ghost use Rattle.rounding.specs.Bounds.{Within};
 ghost use Rattle.gauges.specs.Gauges.{outcome, start, first_place, width_refusal, jump_refusal, most_jump};
 
-use crate::arithmetic::as_signed;
 use crate::gauge::{Axis, Gauge};
 use faults::fault::Refusal;
 
@@ -14,7 +13,7 @@ impl Gauge {
     {
         match self {
             Gauge::Encoder => 0,
-            Gauge::Scale => as_signed(reading) as i64,
+            Gauge::Scale => i64::from(reading.cast_signed()),
         }
     }
 
@@ -23,9 +22,7 @@ impl Gauge {
         ensures value { result ≡ outcome (width_refusal self reading) (start self reading) }
         ensures near { IfOk result (λ axis. Within 1099511627776 axis.position) }
     {
-        if self.is_too_wide(reading) {
-            return Err(Refusal::ReadingTooWide);
-        }
+        self.check_width(reading)?;
         Ok(Axis {
             last: reading,
             position: self.first_place(reading),
@@ -33,8 +30,8 @@ impl Gauge {
     }
 
     // The largest jump limit, in the gauge's own unit.
-    fn most_jump(self) -> i64
-        ensures { result ≡ pos (most_jump self) }
+    fn most_jump(self) -> u32
+        ensures { result ≡ most_jump self }
     {
         match self {
             Gauge::Encoder => 8_388_607,
@@ -46,9 +43,9 @@ impl Gauge {
     pub fn jump_limit(self, jump: i64) -> Result<u32, Refusal>
         ensures { result ≡ outcome (jump_refusal self jump) (unsigned_abs jump) }
     {
-        if jump < 1 || jump > self.most_jump() {
-            return Err(Refusal::OutOfRange);
+        match u32::try_from(jump) {
+            Ok(limit) if (1..=self.most_jump()).contains(&limit) => Ok(limit),
+            _ => Err(Refusal::OutOfRange),
         }
-        Ok(jump as u32)
     }
 }

@@ -2,7 +2,6 @@ use Rattle.std.proofs.Common.{ℤ, ap, ◌∙◌, w64, SFits, rules}
 use Rattle.std.proofs.lemmas.Int.{to_z-of_z}
 use Rattle.backlash.specs.TakeUps.{fresh}
 use Rattle.backlash.specs.BacklashLayers.{standing}
-use Rattle.backlash.specs.Taking.{none_near}
 use Rattle.backlash.specs.BacklashLaws.{put_standing}
 use Rattle.backlash.proofs.backlash_layer.start.Goals as goal
 
@@ -11,7 +10,4 @@ returns g c =
     let b = c.args.backlash.now in
     let m = g.S.Source.means c.args.below.now in
     let f : SFits w64 c.position.result = search rules in
-    record {
-      value = ap (λ (x : ℤ). standing b (fresh x) m) (to_z-of_z w64 c.position.result f ∙ c.position.ensures.value) ∙ put_standing b m;
-      kept = record { near = none_near; held = simp to_z-of_z c.position.ensures.near };
-    }
+    ap (λ (x : ℤ). standing b (fresh x) m) (to_z-of_z w64 c.position.result f ∙ c.position.ensures.value) ∙ put_standing b m
