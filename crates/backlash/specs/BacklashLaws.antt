@@ -5,9 +5,9 @@ use Rattle.std.proofs.lemmas.Bool.{ltb-true}
 use Rattle.rounding.specs.Bounds.{Within}
 use Rattle.faults.specs.declared.fault.Fault.{Fault}
 use Rattle.faults.specs.declared.fault.Part.TheVariants.{Source}
-use Rattle.source.specs.Meaning.{Seen, Meaning, Lawful, past, after, after_of}
+use Rattle.source.specs.Meaning.{Seen, Meaning, Lawful, past}
 use Rattle.layers.specs.Below.{axis_fit, depth_fit, then_fit, position_seen}
-use Rattle.layers.specs.Laid.{laid}
+use Rattle.layers.specs.Laid.{laid, PassesThrough, laid_passes}
 use Rattle.layers.specs.Laying.{laid_lawful, none_of, both_none}
 use Rattle.backlash.specs.declared.backlash.Backlash.{Backlash}
 use Rattle.backlash.specs.declared.backlash.TakeUp.{TakeUp}
@@ -56,13 +56,11 @@ standing_step b s t m row h e is =
     ∙ ap (λ (q : Option Fault). onward q b (moved q b s ((m (row ∷ [])).bare b.axis)) m row) f
     ∙ step_of (backlash_fit b (m [])) b s m row e
 
--- once the source below has taken a row, the moved layer is the layer after it
-pub standing_next : (b : Backlash) (s t : TakeUp) (m n : Meaning) (row : List ℕ) → Lawful m → (m []).refusal row ≡ None → n ≡ after m row
-    → t ≡ moved (backlash_fit b (n [])) b s ((n []).bare b.axis) → standing b t n ≡ after (standing b s m) row
-standing_next b s t m n row h none e is =
-    let q : n ≡ past m row = e ∙ ap (λ (o : Option Fault). after_of o m row) none in
-    let at : t ≡ moved (backlash_fit b (m (row ∷ []))) b s ((m (row ∷ [])).bare b.axis) = is ∙ ap (λ (k : Meaning). moved (backlash_fit b (k [])) b s ((k []).bare b.axis)) q in
-    ap (λ (k : Meaning). standing b t k) q ∙ standing_step b s t m row h none at ∙ ap (λ (o : Option Fault). after_of o (standing b s m) row) (sym none)
+-- once the source below has taken a row, the moved take-up is that of the layer after it
+pub standing_follows : (b : Backlash) (s t : TakeUp) (k : Meaning) → t ≡ moved (backlash_fit b (k [])) b s ((k []).bare b.axis)
+    → (m : Meaning) (row : List ℕ) → Lawful m → (m []).refusal row ≡ None → k ≡ past m row → standing b t (past m row) ≡ past (standing b s m) row
+standing_follows b s t k is m row h none q =
+    standing_step b s t m row h none (is ∙ ap (λ (n : Meaning). moved (backlash_fit b (n [])) b s ((n []).bare b.axis)) q)
 
 there_of : (q : Option Fault) (c : Bool) (b : Backlash) (x : ℤ) (m : Meaning) → (q ≡ None → c ≡ true)
     → laid q b.axis (λ rs. (steps b (fresh (cond c x (pos 0))) (trail b.axis m rs)).amount) m ≡ laid q b.axis (λ rs. (steps b (fresh x) (trail b.axis m rs)).amount) m
@@ -73,3 +71,6 @@ there_of None false b x m h = let z : false ≡ true = h refl in cc
 -- an axis that is not there has no backlash
 pub put_standing : (b : Backlash) (m : Meaning) → standing b (fresh (position_seen (m []) b.axis)) m ≡ backlash_put b m
 put_standing b m = there_of (backlash_fit b (m [])) (nat_lt b.axis (m []).axes) b ((m []).bare b.axis) m (λ e. (fits b (m []) e).there)
+
+pub standing_passes : (b : Backlash) (s : TakeUp) (m : Meaning) → PassesThrough m (standing b s m)
+standing_passes b s m = laid_passes (backlash_fit b (m [])) b.axis (λ rs. (steps b s (trail b.axis m rs)).amount) m

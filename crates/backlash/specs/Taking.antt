@@ -53,3 +53,15 @@ stepped_near b s y r h =
 pub steps_near : (b : Backlash) (s : TakeUp) (ys : List ℤ) → InRange b → Within 32767 s.amount → Within 32767 (steps b s ys).amount
 steps_near b s [] r h = h
 steps_near b s (y ∷ ys) r h = steps_near b (stepped b s y) ys r (stepped_near b s y r h)
+
+-- the extreme stays near, over any positions that are
+farther_near : (d : Direction) (x y : ℤ) → Within 1099511627776 x → Within 1099511627776 y → Within 1099511627776 (farther d x y)
+farther_near Up x y (a, b) (c, e) = (omega (arith, ints, clamps), omega (arith, ints, clamps))
+farther_near Down x y (a, b) (c, e) = (omega (arith, ints, clamps), omega (arith, ints, clamps))
+
+pub stepped_held : (b : Backlash) (s : TakeUp) (y : ℤ) → Within 1099511627776 s.extreme → Within 1099511627776 y → Within 1099511627776 (stepped b s y).extreme
+stepped_held b s y h k =
+    let d = s.direction in
+    let x = farther d s.extreme y in
+    cond_both (is_back d b.hysteresis x y) (going (reversed d) b y s.amount) (going d b x s.amount) (λ t. Within 1099511627776 t.extreme)
+    (λ _. k) (λ _. farther_near d s.extreme y h k)

@@ -5,3 +5,4 @@ pub mod backlash;
 pub mod backlash_layer;
 pub mod laws;
 mod rule;
+pub mod slack;

@@ -108,6 +108,8 @@ impl Rule {
     pub(crate) fn stepped(self, stand: TakeUp, position: i64) -> TakeUp
         ensures value { result ≡ steps_to self.backlash stand position }
         ensures near { Within 32767 stand.amount → Within 32767 result.amount }
+        ensures held { Within 1099511627776 stand.extreme → Within 1099511627776 position
+            → Within 1099511627776 result.extreme }
     {
         let extreme = stand.direction.farther(stand.extreme, position);
         if stand

@@ -1,6 +1,7 @@
 //! Banks that are read until they refuse.
 use banks::bank::Bank;
 use faults::fault::{Fault, Part, Refusal};
+use gauges::gauge::Gauge;
 use source::source::Source;
 
 fn at(refusal: Refusal, axis: usize) -> Result<(), Fault> {
@@ -14,7 +15,7 @@ fn whole(refusal: Refusal) -> Result<(), Fault> {
 /// A counter rolls over, and a refused row moves neither axis.
 #[test]
 fn encoders_move_together(rt: HostRuntime) {
-    let mut bank = Bank::encoders();
+    let mut bank = Bank::new(Gauge::Encoder);
     assert_eq!(rt; bank.advance(&[1]), whole(Refusal::WrongLength));
     assert_eq!(rt;
         bank.set_up(&[16_777_215, 0], 0),
@@ -36,7 +37,7 @@ fn encoders_move_together(rt: HostRuntime) {
 /// The position limit lies 8,193 of the largest moves away.
 #[test]
 fn encoders_stop_at_the_limit(rt: HostRuntime) {
-    let mut bank = Bank::encoders();
+    let mut bank = Bank::new(Gauge::Encoder);
     assert_eq!(rt; bank.set_up(&[0], 8_388_607), Ok(()));
     let mut reading = 0u32;
     for _ in 0..8_192 {
@@ -54,7 +55,7 @@ fn encoders_stop_at_the_limit(rt: HostRuntime) {
 /// A scale's reading is its position.
 #[test]
 fn scales_are_signed(rt: HostRuntime) {
-    let mut bank = Bank::scales();
+    let mut bank = Bank::new(Gauge::Scale);
     assert_eq!(rt; bank.set_up(&[4_294_967_295], 5), Ok(()));
     assert_eq!(rt; bank.bare(0), Ok(-1));
     assert_eq!(rt; bank.advance(&[5]), at(Refusal::JumpTooLarge, 0));

@@ -1,6 +1,7 @@
 //! A sheet and backlash on a bank of scales, row by row.
 use backlash::backlash::Backlash;
 use banks::bank::Bank;
+use gauges::gauge::Gauge;
 use sheets::sheet::Sheet;
 use source::source::Source;
 use stacks::pair::sheet_and_backlash;
@@ -14,7 +15,7 @@ fn takes_up_backlash(rt: HostRuntime) {
         read_text(&mut sheet, b"DEFINE COMP 4,#1,#1,10\n8\n-8\n4\n0\nCLOSE\n"),
         Ok(())
     );
-    let mut bank = Bank::scales();
+    let mut bank = Bank::new(Gauge::Scale);
     assert_eq!(rt; bank.set_up(&[0], 100), Ok(()));
     let backlash = Backlash {
         axis: 0,

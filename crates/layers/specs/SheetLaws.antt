@@ -12,7 +12,7 @@ use Rattle.sheets.specs.Tables.{Table, held}
 use Rattle.sheets.proofs.Held.{held_valid}
 use Rattle.source.specs.Meaning.{Seen, Meaning, Lawful, past, after, after_of}
 use Rattle.values.proofs.Bounded.{value_near}
-use Rattle.layers.specs.Laid.{laid}
+use Rattle.layers.specs.Laid.{laid, PassesThrough, laid_passes}
 use Rattle.layers.specs.Below.{axis_fit, depth_fit, then_fit}
 use Rattle.layers.specs.SheetLayers.{head_fit, sheet_fit, sheet_target, sheet_value, table_put, sheet_put}
 use Rattle.layers.specs.Laying.{laid_lawful, none_of, both_none}
@@ -62,3 +62,6 @@ table_after o m row h = after_one ((m []).refusal row) o m row h
 
 pub sheet_after : (sheet : Sheet) (m : Meaning) (row : List ℕ) → Lawful m → sheet_put sheet (after m row) ≡ after (sheet_put sheet m) row
 sheet_after sheet m row h = table_after (held sheet) m row h
+
+pub sheet_passes : (sheet : Sheet) (m : Meaning) → PassesThrough m (sheet_put sheet m)
+sheet_passes sheet m = laid_passes (sheet_fit (held sheet) (m [])) (sheet_target (held sheet)) (λ rs. sheet_value (held sheet) (m rs)) m

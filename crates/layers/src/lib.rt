@@ -2,4 +2,6 @@
 #![tactic(auto)]
 
 pub mod below;
+pub mod correction;
+pub mod layer;
 pub mod sheet_layer;

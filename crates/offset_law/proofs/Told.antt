@@ -135,7 +135,7 @@ bank_single : (x : ℕ) → Single (bank_means Encoder 1 8388607 (started Encode
 bank_single x = record {
   axes = λ rs. refl;
   offset = λ rs. refl;
-  lawful = bank_lawful Encoder 1 8388607 (started Encoder (x ∷ [])) (lit≤ tt) (none_far (started Encoder (x ∷ [])) (refl, (refl, (refl, (refl, (refl, (refl, (refl, (refl, tt)))))))));
+  lawful = bank_lawful Encoder 1 8388607 (started Encoder (x ∷ [])) (lit≤ tt) (none_far (started Encoder (x ∷ [])) (refl, tt));
 }
 
 -- the bank that a line sets up, or not

@@ -4,14 +4,16 @@ use lib.Signed.{lt_z}
 use Rattle.std.proofs.lemmas.Int.{ints}
 use Rattle.std.specs.Int.{int_max, int_min}
 use Rattle.backlash.specs.declared.backlash.Backlash.{Backlash}
+use Rattle.backlash.specs.declared.backlash.Direction.{Direction}
+use Rattle.backlash.specs.declared.backlash.Direction.TheVariants.{Up, Down}
 use Rattle.backlash.specs.declared.backlash.TakeUp.{TakeUp}
-use Rattle.backlash.specs.TakeUps.{fresh, upward, downward, topped, bottomed, stepped, steps, taken_up}
+use Rattle.backlash.specs.TakeUps.{fresh, going, reversed, farther, is_back, gone, stepped, steps, taken_up}
 
 lt_shift : (a b k : ℤ) → lt_z (a +ℤ k) (b +ℤ k) ≡ lt_z a b
 lt_shift a b k = grind (arith, ints)
 
 abbrev shifted : ℤ → TakeUp → TakeUp
-shifted k s = record { upward = s.upward; extreme = s.extreme +ℤ k; amount = s.amount }
+shifted k s = record { direction = s.direction; extreme = s.extreme +ℤ k; amount = s.amount }
 
 cond_plus : (b : Bool) (x y k : ℤ) → cond b (x +ℤ k) (y +ℤ k) ≡ cond b x y +ℤ k
 cond_plus true x y k = refl
@@ -33,25 +35,23 @@ less_shift x h k = omega (arith, ints)
 plus_shift : (x h k : ℤ) → (x +ℤ k) +ℤ h ≡ (x +ℤ h) +ℤ k
 plus_shift x h k = omega (arith, ints)
 
-top_shift : (b : Backlash) (x z y k : ℤ) → topped b (x +ℤ k) z (y +ℤ k) ≡ shifted k (topped b x z y)
-top_shift b x z y k =
-    ap (λ (c : Bool). cond c (downward b (y +ℤ k) z) (upward b (x +ℤ k) z)) (ap (λ (v : ℤ). lt_z (y +ℤ k) v) (less_shift x b.hysteresis k) ∙ lt_shift y (x -ℤ b.hysteresis) k)
-    ∙ cond_shifted (lt_z y (x -ℤ b.hysteresis)) k (downward b y z) (upward b x z)
+farther_shift : (d : Direction) (x y k : ℤ) → farther d (x +ℤ k) (y +ℤ k) ≡ farther d x y +ℤ k
+farther_shift Up x y k = max_shift x y k
+farther_shift Down x y k = min_shift x y k
 
-bottom_shift : (b : Backlash) (x z y k : ℤ) → bottomed b (x +ℤ k) z (y +ℤ k) ≡ shifted k (bottomed b x z y)
-bottom_shift b x z y k =
-    ap (λ (c : Bool). cond c (upward b (y +ℤ k) z) (downward b (x +ℤ k) z)) (ap (λ (v : ℤ). lt_z v (y +ℤ k)) (plus_shift x b.hysteresis k) ∙ lt_shift (x +ℤ b.hysteresis) y k)
-    ∙ cond_shifted (lt_z (x +ℤ b.hysteresis) y) k (upward b y z) (downward b x z)
+back_shift : (d : Direction) (h x y k : ℤ) → is_back d h (x +ℤ k) (y +ℤ k) ≡ is_back d h x y
+back_shift Up h x y k = ap (λ (v : ℤ). lt_z (y +ℤ k) v) (less_shift x h k) ∙ lt_shift y (x -ℤ h) k
+back_shift Down h x y k = ap (λ (v : ℤ). lt_z v (y +ℤ k)) (plus_shift x h k) ∙ lt_shift (x +ℤ h) y k
+
+gone_shift : (d : Direction) (b : Backlash) (x z y k : ℤ) → gone d b (x +ℤ k) z (y +ℤ k) ≡ shifted k (gone d b x z y)
+gone_shift d b x z y k =
+    ap (λ (c : Bool). cond c (going (reversed d) b (y +ℤ k) z) (going d b (x +ℤ k) z)) (back_shift d b.hysteresis x y k)
+    ∙ cond_shifted (is_back d b.hysteresis x y) k (going (reversed d) b y z) (going d b x z)
 
 step_shift : (b : Backlash) (s : TakeUp) (y k : ℤ) → stepped b (shifted k s) (y +ℤ k) ≡ shifted k (stepped b s y)
 step_shift b s y k =
-    let x = s.extreme in
-    let z = s.amount in
-    ap (λ (v : ℤ). cond s.upward (topped b v z (y +ℤ k)) (bottomed b (int_min (x +ℤ k) (y +ℤ k)) z (y +ℤ k))) (max_shift x y k)
-    ∙ ap (λ (v : ℤ). cond s.upward (topped b (int_max x y +ℤ k) z (y +ℤ k)) (bottomed b v z (y +ℤ k))) (min_shift x y k)
-    ∙ ap (λ (v : TakeUp). cond s.upward v (bottomed b (int_min x y +ℤ k) z (y +ℤ k))) (top_shift b (int_max x y) z y k)
-    ∙ ap (λ (v : TakeUp). cond s.upward (shifted k (topped b (int_max x y) z y)) v) (bottom_shift b (int_min x y) z y k)
-    ∙ cond_shifted s.upward k (topped b (int_max x y) z y) (bottomed b (int_min x y) z y)
+    ap (λ (x : ℤ). gone s.direction b x s.amount (y +ℤ k)) (farther_shift s.direction s.extreme y k)
+    ∙ gone_shift s.direction b (farther s.direction s.extreme y) s.amount y k
 
 steps_shift : (b : Backlash) (s : TakeUp) (ys : List ℤ) (k : ℤ) → steps b (shifted k s) (map (λ y. y +ℤ k) ys) ≡ shifted k (steps b s ys)
 steps_shift b s [] k = refl

@@ -7,16 +7,16 @@ ghost use Rattle.stacks.specs.Stack.{stacked, sheet as of_sheet, backlash as of_
 
 use crate::laws::stacks_are_lawful;
 use backlash::backlash::Backlash;
-use backlash::backlash_layer::BacklashLayer;
+use backlash::backlash_layer::{BacklashLayer, put_backlash};
 use layers::sheet_layer::SheetLayer;
 use sheets::sheet::Sheet;
 use source::source::Source;
 
 // Puts both on, the sheet first.
 fn put_both<S: Source>(bottom: S, sheet: &Sheet, backlash: Backlash) -> BacklashLayer<SheetLayer<S>>
-    ensures { standing result.backlash result.stand (sheet_put result.below.sheet (S.Source.means result.below.below)) ≡ stacked (of_backlash backlash ∷ of_sheet sheet.now ∷ []) (S.Source.means bottom) }
+    ensures { standing result.correction.backlash result.correction.stand (sheet_put result.below.correction (S.Source.means result.below.below)) ≡ stacked (of_backlash backlash ∷ of_sheet sheet.now ∷ []) (S.Source.means bottom) }
 {
-    BacklashLayer::put(SheetLayer::put(bottom, sheet), backlash)
+    put_backlash(SheetLayer::put(bottom, sheet), backlash)
 }
 
 /// Puts a sheet on a source, and a backlash on that: a stack of the two, of which the laws of stacks hold.
@@ -25,7 +25,7 @@ pub fn sheet_and_backlash<S: Source>(
     sheet: &Sheet,
     backlash: Backlash,
 ) -> BacklashLayer<SheetLayer<S>>
-    ensures means { standing result.backlash result.stand (sheet_put result.below.sheet (S.Source.means result.below.below)) ≡ stacked (of_backlash backlash ∷ of_sheet sheet.now ∷ []) (S.Source.means bottom) }
+    ensures means { standing result.correction.backlash result.correction.stand (sheet_put result.below.correction (S.Source.means result.below.below)) ≡ stacked (of_backlash backlash ∷ of_sheet sheet.now ∷ []) (S.Source.means bottom) }
     ensures laws { StackLaws }
 {
     stacks_are_lawful();

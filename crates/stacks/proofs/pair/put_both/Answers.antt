@@ -4,4 +4,4 @@ use Rattle.backlash.specs.BacklashLayers.{backlash_put}
 use Rattle.stacks.proofs.pair.put_both.Goals as goal
 
 pub returns : goal.returns
-returns g c = c.put-2.ensures ∙ ap (λ (m : Meaning). backlash_put c.args.backlash m) c.put.ensures
+returns g c = c.put_backlash.ensures ∙ ap (λ (m : Meaning). backlash_put c.args.backlash m) c.put.ensures
