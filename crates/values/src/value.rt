@@ -11,8 +11,7 @@ use headings::heading::Heading;
 use sheets::sheet::Sheet;
 use sheets::table::Table;
 
-/// A table's value at a position of its row axis and of its column axis; a screw is read by the first alone.
-pub fn table_value(table: &Table, row: i64, column: i64) -> i64
+fn read_value(table: &Table, row: i64, column: i64) -> i64
     ensures value { result ≡ value (table_of table.now) row column }
     ensures near { Within 32767 result }
 {
@@ -21,6 +20,14 @@ pub fn table_value(table: &Table, row: i64, column: i64) -> i64
         Heading::Screw(screw) => ScrewTable { screw, entries }.value(row),
         Heading::Plane(plane) => PlaneTable { plane, entries }.value(row, column),
     }
+}
+
+/// A table's value at a position of its row axis and of its column axis; a screw is read by the first alone.
+pub fn table_value(table: &Table, row: i64, column: i64) -> i64
+    ensures value { result ≡ value (table_of table.now) row column }
+    ensures near { Within 32767 result }
+{
+    read_value(table, row, column)
 }
 
 /// The value of the table in a sheet. An empty sheet has none.

@@ -2,7 +2,7 @@ use Rattle.std.proofs.Common.{◌≡◌, w64, to_z, of_z, rules}
 use Rattle.sheets.specs.Tables.{table_of}
 use Rattle.values.specs.Values.{value}
 use Rattle.values.proofs.Bounded.{table_near}
-use Rattle.values.proofs.value.table_value.Goals as goal
+use Rattle.values.proofs.value.read_value.Goals as goal
 
 pub returns-in-Screw-clause-near : goal.returns-in-Screw-clause-near
 returns-in-Screw-clause-near c =
