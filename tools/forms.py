@@ -16,7 +16,7 @@ POINTS = {
         ("a number for a kind", r"::\w+(\(\w+\))? => -?[\d_]+,$"),
     ],
     "2": [
-        ("names that differ in one word", None),
+        ("functions of one shape", None),
     ],
     "3": [
         ("a loop with a counter", r"^\s*while\b|^\s*\w+(\.\w+)? \+= 1;"),
@@ -28,7 +28,8 @@ POINTS = {
         ("a range tested by two comparisons", r"<= .* && .* <=|< .* \|\| .* > "),
     ],
     "5": [
-        ("a requires on a private function", r"^\s*requires\b"),
+        ("a fact that is asked of a caller", r"^\s*requires\b"),
+        ("the same clause in three or more contracts", None),
     ],
     "6": [
         ("an array in a record", r"^\s*(pub(\(crate\))? )?\w+: \[\w+; \w+\],$"),
@@ -79,15 +80,29 @@ def twins():
     return [group for group in seen.values() if len(group) > 1]
 
 
+def repeated():
+    """Clauses of one line, without their labels, that stand in three or more contracts."""
+    seen = {}
+    for path, number, line in lines():
+        m = re.match(r"\s*(requires|ensures)( \w+)? (\{.*\})$", line)
+        if m:
+            seen.setdefault(m.group(1) + " " + m.group(3), []).append((path, number))
+    return {clause: places for clause, places in seen.items() if len(places) > 2}
+
+
+def groups(point):
+    if point == "2":
+        return [f"{p}:{n}: fn {name}" for group in twins() for p, n, name in group]
+    return [f"{p}:{n}: {clause}" for clause, places in repeated().items() for p, n in places]
+
+
 def main():
     asked = sys.argv[1:] or list(POINTS)
     for point in asked:
         total = 0
         for what, pattern in POINTS[point]:
-            found = []
             if pattern is None:
-                for group in twins():
-                    found += [f"{p}:{n}: fn {name}" for p, n, name in group]
+                found = groups(point)
             else:
                 found = [f"{p}:{n}: {l.strip()}" for p, n, l in lines() if re.search(pattern, l)]
             for line in found:

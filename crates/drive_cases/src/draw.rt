@@ -1,27 +1,22 @@
 //! Random numbers, the same at each run.
-ghost use Rattle.std.specs.Prelude.{◌<◌, ◌≤◌};
+ghost use Rattle.std.specs.Prelude.{◌^◌, ◌<◌, ◌≤◌};
 
 #[derive(Drop)]
 pub(crate) struct Draw {
     pub(crate) state: u64,
 }
 
-// A number below 2^63, as a signed one.
-pub(crate) fn plain(n: u64) -> i64 {
-    (n & 0x7fff_ffff_ffff_ffff) as i64
-}
-
 impl Draw {
     fn next(&mut self) -> u64 {
-        let state = self
+        self.state = self
             .state
             .wrapping_mul(6364136223846793005)
             .wrapping_add(1442695040888963407);
-        self.state = state;
-        let x = (state ^ (state >> 33)).wrapping_mul(0xff51_afd7_ed55_8ccd);
+        let x = (self.state ^ (self.state >> 33)).wrapping_mul(0xff51_afd7_ed55_8ccd);
         x ^ (x >> 33)
     }
 
+    // A plain n here and below: a type that is never 0 would be no plainer at the many calls with a literal.
     pub(crate) fn below(&mut self, n: u64) -> u64
         requires { 1 ≤ n }
         ensures { result < n }
@@ -32,23 +27,23 @@ impl Draw {
     // More often small than large.
     pub(crate) fn small(&mut self, n: u64) -> u64
         requires { 1 ≤ n }
+        ensures { result < n }
     {
         let value = self.below(n);
         value >> self.below(24)
     }
 
     // A size with a sign.
-    pub(crate) fn sign(&mut self, size: u64) -> i64 {
-        let z = plain(size);
-        if self.below(2) == 1 {
-            z.wrapping_neg()
-        } else {
-            z
-        }
+    pub(crate) fn sign(&mut self, size: u64) -> i64
+        requires { size < 2 ^ 63 }
+    {
+        let z = size as i64;
+        if self.below(2) == 1 { -z } else { z }
     }
 
     pub(crate) fn signed(&mut self, n: u64) -> i64
-        requires { 1 ≤ n }
+        requires positive { 1 ≤ n }
+        requires small { n ≤ 2 ^ 63 }
     {
         let size = self.small(n);
         self.sign(size)
@@ -56,7 +51,7 @@ impl Draw {
 
     // A step of at most this size, either way.
     pub(crate) fn step(&mut self, size: u32) -> i64 {
-        let n = u64::from(size);
-        plain(self.below(2 * n + 1)).wrapping_sub(i64::from(size))
+        let n = self.below(2 * u64::from(size) + 1);
+        n as i64 - i64::from(size)
     }
 }

@@ -33,12 +33,10 @@ fresh = record { state = Killed; correction = false; gains = fresh_settings; mem
 
 -- another state, with output and memory 0
 abbrev pub stopped : State → MotorView → MotorView
-stopped s m =
-    record { state = s; correction = m.correction; gains = m.gains; memory = nothing; notch = rest; output = pos 0 }
+stopped s m = record m { state = s; memory = nothing; notch = rest; output = pos 0 }
 
 abbrev pub with_memory : Kept → MotorView → MotorView
-with_memory a m =
-    record { state = m.state; correction = m.correction; gains = m.gains; memory = a; notch = m.notch; output = m.output }
+with_memory a m = record m { memory = a }
 
 -- closed at x
 abbrev pub closed_at : ℤ → MotorView → MotorView
@@ -62,10 +60,8 @@ taken e m = taken_in m.state e m
 -- a closed motor whose servo leaves the memory a and hands u to the notch
 abbrev pub driven : Kept → ℤ → MotorView → MotorView
 driven a u m =
-    record {
+    record m {
       state = Closed;
-      correction = m.correction;
-      gains = m.gains;
       memory = a;
       notch = after m.notch m.gains.notch m.gains.output_limit u;
       output = output m.notch m.gains.notch m.gains.output_limit u;
@@ -93,14 +89,14 @@ stepped x m = stepped_in m.state x m
 
 -- with other gains, and sent to another target
 abbrev pub given : GainSettings → MotorView → MotorView
-given g m = record { state = m.state; correction = m.correction; gains = g; memory = m.memory; notch = m.notch; output = m.output }
+given g m = record m { gains = g }
 
 abbrev pub sent : ℤ → MotorView → MotorView
 sent t m = with_memory (sent_to t m.memory) m
 
 -- with its correction switched on or off
 abbrev pub switched : Bool → MotorView → MotorView
-switched on m = record { state = m.state; correction = on; gains = m.gains; memory = m.memory; notch = m.notch; output = m.output }
+switched on m = record m { correction = on }
 
 -- how far a closed motor at x is from its target
 abbrev pub following_error : ℤ → MotorView → ℤ

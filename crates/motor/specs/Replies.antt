@@ -9,19 +9,7 @@ use Rattle.servo.specs.Memories.{Kept}
 use Rattle.servo.specs.Step.{answer}
 
 abbrev pub with_ki : ℤ → GainSettings → GainSettings
-with_ki k s =
-    record {
-      kp = s.kp;
-      kd = s.kd;
-      kv = s.kv;
-      ka = s.ka;
-      ki = k;
-      error_limit = s.error_limit;
-      integrator_limit = s.integrator_limit;
-      following_limit = s.following_limit;
-      output_limit = s.output_limit;
-      notch = s.notch;
-    }
+with_ki k s = record s { ki = k }
 
 abbrev pub without_ki : GainSettings → GainSettings
 without_ki s = with_ki (pos 0) s

@@ -10,7 +10,9 @@ use servo::place::Place;
 impl Motor {
     /// Gives other gains to a motor that is not closed.
     pub fn set_gains(&mut self, gains: Gains)
-        ensures { view self.new ≡ (if is_closed self.old.state then view self.old else given gains.settings (view self.old)) }
+        ensures { view self.new ≡
+            (if is_closed self.old.state then view self.old
+            else given gains.settings (view self.old)) }
     {
         if !self.is_closed() {
             self.gains = gains;
@@ -35,9 +37,10 @@ impl Motor {
     pub fn following_error(&self, x: Place) -> i64
         ensures { result ≡ following_error x.at (view self.now) }
     {
-        if !self.is_closed() {
-            return 0;
+        if self.is_closed() {
+            self.memory.target - x
+        } else {
+            0
         }
-        self.memory.target - x.at
     }
 }

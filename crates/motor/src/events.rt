@@ -13,14 +13,10 @@ impl Motor {
     fn stop(&mut self, state: State)
         ensures { view self.new ≡ stopped state (view self.old) }
     {
-        *self = Motor {
-            state,
-            correction: self.correction,
-            gains: self.gains,
-            memory: Memory::at_rest(),
-            notch: Notch::at_rest(),
-            output: 0,
-        };
+        self.state = state;
+        self.memory = Memory::at_rest();
+        self.notch = Notch::at_rest();
+        self.output = 0;
     }
 
     // Closed where it stands: target and last positions are x, and all other memory is 0.

@@ -28,9 +28,6 @@ impl Motor {
     pub fn is_closed(&self) -> bool
         ensures { result ≡ is_closed self.now.state }
     {
-        match self.state {
-            State::Closed => true,
-            State::Killed | State::Tripped(_) => false,
-        }
+        matches!(self.state, State::Closed)
     }
 }

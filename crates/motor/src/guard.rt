@@ -3,6 +3,7 @@ ghost use Rattle.std.specs.Prelude.{◌≡◌};
 ghost use Rattle.motor.specs.Replies.{with_ki, without_ki};
 
 use servo::settings::GainSettings;
+use std::mem;
 
 /// Holds a gain record whose ki is 0 for as long as the guard lives.
 pub(crate) struct WithoutKi<'a> {
@@ -17,8 +18,7 @@ impl WithoutKi<'_> {
         ensures zero { result.gains.now ≡ without_ki gains.old }
         ensures saved { result.ki ≡ gains.old.ki }
     {
-        let ki = gains.ki;
-        gains.ki = 0;
+        let ki = mem::take(&mut gains.ki);
         WithoutKi { gains, ki }
     }
 }

@@ -1,7 +1,8 @@
 //! What an axis would put out at an error, with its integrator left out.
-ghost use Rattle.std.specs.Prelude.{◌≡◌, true};
+ghost use Rattle.std.specs.Prelude.{◌≡◌, true, false, MatchResult};
 ghost use Rattle.motor.specs.Replies.{is_reach, lagging, measured, replied, reply_answer};
 ghost use Rattle.servo.specs.Memories.{memory_of};
+ghost use Rattle.servo.specs.Ranges.{out_of_range};
 
 use crate::guard::WithoutKi;
 use faults::fault::{Fault, Part, Refusal};
@@ -11,50 +12,49 @@ use servo::memory::Memory;
 use servo::place::Place;
 use servo::settings::GainSettings;
 
-// Does the error lie within the position limit?
-fn is_reach(e0: i64) -> bool
-    ensures { result ≡ is_reach e0 }
+// The target at an error within the position limit.
+#[tactic(auto, unfolding(servo::specs::Ranges::within))]
+fn reach(e0: i64) -> Result<Place, Fault>
+    ensures { MatchResult result
+        (λ t. (is_reach e0 ≡ true) × (t.at ≡ e0))
+        (λ f. (is_reach e0 ≡ false) × (f ≡ out_of_range)) }
 {
-    -1_099_511_627_776 <= e0 && e0 <= 1_099_511_627_776
+    if (-1_099_511_627_776..=1_099_511_627_776).contains(&e0) {
+        Ok(Place { at: e0 })
+    } else {
+        Err(Fault::of(Part::Machine, Refusal::OutOfRange))
+    }
 }
 
-// The memory of an axis that stands at 0 and whose target was at e0 before: no velocity, nothing integrated.
-fn lag(e0: i64) -> Memory
-    requires { is_reach e0 ≡ true }
-    ensures { memory_of result ≡ lagging e0 }
+// The memory of an axis that stands at 0 and whose target was there before: no velocity, nothing integrated.
+fn lag(target: Place) -> Memory
+    ensures { memory_of result ≡ lagging target.at }
 {
-    Memory {
-        target: e0,
-        last_target: e0,
-        last_position: 0,
-        last_velocity: 0,
-        integrator: 0,
-    }
+    let mut memory = Memory::starting(target);
+    memory.last_position = Place { at: 0 };
+    memory
 }
 
 // What is put out from there; a trip puts out 0.
-fn put_out(gains: &Gains, memory: Memory) -> i32
+fn put_out(gains: &Gains, mut memory: Memory) -> i32
     ensures { result ≡ replied gains.now.settings (memory_of memory) }
 {
-    let mut memory = memory;
-    match memory.step(gains, false, Place { at: 0 }) {
-        Ok(u) => {
-            let mut notch = Notch::at_rest();
-            notch.filter(gains.settings.notch, gains.settings.output_limit, u)
-        }
-        Err(_) => 0,
-    }
+    let settings = &gains.settings;
+    let answer = memory.step(gains, false, Place { at: 0 });
+    answer.map_or(
+        0,
+        |u| Notch::at_rest().filter(settings.notch, settings.output_limit, u),
+    )
 }
 
 // The reply of gains that are used as they stand.
+#[tactic(auto, unfolding(crate::specs::Replies::measured))]
 fn measure(settings: &GainSettings, e0: i64) -> Result<i32, Fault>
     ensures { result ≡ measured settings.now e0 }
 {
     let gains = Gains::checked(*settings)?;
-    if !is_reach(e0) {
-        return Err(Fault::of(Part::Machine, Refusal::OutOfRange));
-    }
-    Ok(put_out(&gains, lag(e0)))
+    let target = reach(e0)?;
+    Ok(put_out(&gains, lag(target)))
 }
 
 /// What a freshly closed axis with these gains would put out at the error e0 with no velocity and with ki left out.
@@ -65,6 +65,5 @@ pub fn reply(gains: &mut GainSettings, e0: i64) -> Result<i32, Fault>
 {
     Gains::checked(*gains)?;
     let without = WithoutKi::new(gains);
-    let output = measure(without.gains, e0)?;
-    Ok(output)
+    measure(without.gains, e0)
 }

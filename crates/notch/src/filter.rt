@@ -15,6 +15,7 @@ fn scaled(n: i64) -> f64
 }
 
 // A raw output brought to the limit. A NaN passes neither test and becomes -limit.
+// By hand: `clamp` leaves a NaN one, and `max` with `min` answers otherwise where the limit is negative.
 fn limit_to(limit: i64, raw: f64) -> f64
     ensures { result ≡ limited (of_int binary64 limit) raw }
 {
@@ -31,7 +32,10 @@ fn limit_to(limit: i64, raw: f64) -> f64
 // An output with its fraction dropped. One that was brought to a limit stays within it.
 fn whole(y: f64) -> i32
     ensures value { result ≡ to_signed 31 y }
-    ensures bound { (limit : ℤ) (raw : Float) → y ≡ limited (of_int binary64 limit) raw → unsigned_abs limit ≤ 2 ^ 53 → unsigned_abs result ≤ unsigned_abs limit }
+    ensures bound { (limit : ℤ) (raw : Float) →
+        y ≡ limited (of_int binary64 limit) raw →
+        unsigned_abs limit ≤ 2 ^ 53 →
+        unsigned_abs result ≤ unsigned_abs limit }
 {
     saturating_f64_to_i32(y)
 }
@@ -41,12 +45,7 @@ impl Notch {
     pub fn at_rest() -> Notch
         ensures { result ≡ rest }
     {
-        Notch {
-            u1: 0.0,
-            u2: 0.0,
-            y1: 0.0,
-            y2: 0.0,
-        }
+        Notch::default()
     }
 
     // The output before the limit. Each operation rounds once, in this order.
@@ -61,11 +60,13 @@ impl Notch {
     /// One step: takes the input u, remembers it, and puts out a number within the limit.
     pub fn filter(&mut self, by: Coefficients, limit: i64, u: i64) -> i32
         ensures out { result ≡ output self.old by limit u }
-        ensures bound { unsigned_abs limit ≤ 2 ^ 53 → unsigned_abs result ≤ unsigned_abs limit }
+        ensures bound { unsigned_abs limit ≤ 2 ^ 53 →
+            unsigned_abs result ≤ unsigned_abs limit }
         ensures memory { self.new ≡ after self.old by limit u }
     {
         let input = nearest_i64_to_f64(u);
         let y = limit_to(limit, self.weigh(by, input));
+        // A whole record: all four fields move on, and one by one their order would matter.
         *self = Notch {
             u1: input,
             u2: self.u1,

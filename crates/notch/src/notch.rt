@@ -1,7 +1,7 @@
 //! What a notch filter is set to, and what it remembers.
 
 /// The coefficients, in units of 2^-20.
-#[derive(Clone, Copy)]
+#[derive(Clone, Copy, Default)]
 pub struct Coefficients {
     pub n1: i64,
     pub n2: i64,
@@ -10,7 +10,7 @@ pub struct Coefficients {
 }
 
 /// The last two inputs and the last two outputs after the limit; `u1` and `y1` are the latest.
-#[derive(Clone, Copy)]
+#[derive(Clone, Copy, Default)]
 pub struct Notch {
     pub u1: f64,
     pub u2: f64,

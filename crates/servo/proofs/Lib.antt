@@ -1,4 +1,4 @@
-pub mod Near
 pub mod Places
-pub mod Products
+pub mod Shifts
 pub mod Sizes
+pub mod Sums

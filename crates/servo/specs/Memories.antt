@@ -11,7 +11,13 @@ pub record Kept : Type 0 where
 
 abbrev pub memory_of : Memory → Kept
 memory_of a =
-    record { target = a.target; last_target = a.last_target; last_position = a.last_position; last_velocity = a.last_velocity; integrator = a.integrator }
+    record {
+      target = a.target.at;
+      last_target = a.last_target.at;
+      last_position = a.last_position.at;
+      last_velocity = a.last_velocity.value;
+      integrator = a.integrator;
+    }
 
 -- the memory of an axis that is not closed
 abbrev pub nothing : Kept
@@ -22,4 +28,4 @@ abbrev pub starting : ℤ → Kept
 starting x = record { target = x; last_target = x; last_position = x; last_velocity = pos 0; integrator = pos 0 }
 
 abbrev pub sent_to : ℤ → Kept → Kept
-sent_to t a = record { target = t; last_target = a.last_target; last_position = a.last_position; last_velocity = a.last_velocity; integrator = a.integrator }
+sent_to t a = record a { target = t }

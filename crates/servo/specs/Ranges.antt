@@ -1,5 +1,5 @@
 -- The ranges of the gains.
-use Rattle.std.specs.Prelude.{Bool, ◌&&◌, ℤ, pos, negsuc, ◌==◌, int_le, unsigned_abs}
+use Rattle.std.specs.Prelude.{◌≤◌, Bool, ◌&&◌, ℤ, pos, negsuc, ◌==◌, int_le, unsigned_abs}
 use Rattle.faults.specs.declared.fault.Fault.{Fault}
 use Rattle.faults.specs.declared.fault.Part.TheVariants.{Machine}
 use Rattle.faults.specs.declared.fault.Refusal.TheVariants.{OutOfRange}
@@ -7,7 +7,7 @@ use Rattle.faults.specs.Faults.{fault_of}
 use Rattle.notch.specs.declared.notch.Coefficients.{Coefficients}
 use Rattle.servo.specs.declared.settings.GainSettings.{GainSettings}
 
-abbrev pub within : ℤ → ℤ → ℤ → Bool
+unfoldable pub within : ℤ → ℤ → ℤ → Bool
 within low high z = int_le low z && int_le z high
 
 abbrev pub is_gain : ℤ → Bool
@@ -32,6 +32,18 @@ notch_fits c = is_coefficient c.n1 && (is_coefficient c.n2 && (is_coefficient c.
 
 unfoldable pub fits : GainSettings → Bool
 fits s = within (pos 0) (pos 8388607) s.kp && (gains_fit s && (limits_fit s && notch_fits s.notch))
+
+-- how large gains in range are
+pub record Sizes (s : GainSettings) : Type 0 where
+  pub kp : unsigned_abs s.kp ≤ 8388607
+  pub kd : unsigned_abs s.kd ≤ 32767
+  pub kv : unsigned_abs s.kv ≤ 32767
+  pub ka : unsigned_abs s.ka ≤ 32767
+  pub ki : unsigned_abs s.ki ≤ 32767
+  pub error_limit : unsigned_abs s.error_limit ≤ 1048576
+  pub integrator_limit : unsigned_abs s.integrator_limit ≤ 70368744177664
+  pub following_limit : unsigned_abs s.following_limit ≤ 1099511627776
+  pub output_limit : unsigned_abs s.output_limit ≤ 32767
 
 -- is the output o at its limit?
 abbrev pub at_limit : GainSettings → ℤ → Bool

@@ -1,6 +1,5 @@
 //! Sums, products and quotients that fit, whatever the gains are.
-ghost use Rattle.std.specs.Prelude.{◌≡◌, ◌*◌, ◌^◌, ◌<◌, ◌≤◌, pos, ◌-ℤ◌, ◌*ℤ◌, neg_ℤ, ◌==◌, nat_lt, unsigned_abs};
-ghost use Rattle.std.specs.Int.{int_max, int_min};
+ghost use Rattle.std.specs.Prelude.{◌≡◌, ◌*◌, ◌^◌, ◌<◌, ◌≤◌, ◌*ℤ◌, ◌==◌, nat_lt, unsigned_abs};
 ghost use Rattle.servo.specs.Clip.{clipped, floor};
 
 // Is z larger in size than the limit?
@@ -17,41 +16,15 @@ pub(crate) fn is_at(z: i64, limit: i64) -> bool
     z.unsigned_abs() == limit.unsigned_abs()
 }
 
-// z, brought to at most `by` in size.
-fn clip(z: i64, by: u64) -> i64
-    requires { by ≤ 2 ^ 46 }
-    ensures { result ≡ int_max (neg_ℤ (pos by)) (int_min z (pos by)) }
-{
-    let by = by as i64;
-    z.clamp(-by, by)
-}
-
 // z, brought to at most the limit's size.
-pub(crate) fn clip_to(z: i64, limit: i64) -> i64
-    requires { unsigned_abs limit ≤ 2 ^ 46 }
+#[tactic(auto, unfolding(crate::specs::Clip::clipped))]
+pub(crate) fn clip(z: i64, limit: i64) -> i64
+    requires { unsigned_abs limit < 2 ^ 63 }
     ensures value { result ≡ clipped (unsigned_abs limit) z }
-    ensures size { unsigned_abs result ≤ 2 ^ 46 }
-    ensures small { unsigned_abs limit ≤ 2 ^ 20 → unsigned_abs result ≤ 2 ^ 20 }
+    ensures size { unsigned_abs result ≤ unsigned_abs limit }
 {
-    clip(z, limit.unsigned_abs())
-}
-
-// An error or a velocity, brought to at most the limit's size.
-pub(crate) fn clip_small(z: i64, limit: i64) -> i64
-    requires { unsigned_abs limit ≤ 2 ^ 20 }
-    ensures value { result ≡ clipped (unsigned_abs limit) z }
-    ensures size { unsigned_abs result ≤ 2 ^ 20 }
-{
-    clip_to(z, limit)
-}
-
-// How far a lies from b.
-pub(crate) fn difference(a: i64, b: i64) -> i64
-    requires left { unsigned_abs a ≤ 2 ^ 46 }
-    requires right { unsigned_abs b ≤ 2 ^ 46 }
-    ensures { result ≡ a -ℤ b }
-{
-    a - b
+    let by = limit.abs();
+    z.clamp(-by, by)
 }
 
 // A gain times a signed number.
@@ -59,7 +32,7 @@ pub(crate) fn times(k: i64, z: i64) -> i64
     requires gain { unsigned_abs k ≤ 2 ^ 15 }
     requires size { unsigned_abs z ≤ 2 ^ 21 }
     ensures value { result ≡ k *ℤ z }
-    ensures size { unsigned_abs result ≤ 32768 * unsigned_abs z }
+    ensures size { unsigned_abs result ≤ 2 ^ 36 }
 {
     k * z
 }

@@ -5,8 +5,8 @@ ghost use Rattle.servo.specs.Causes.{cause_number};
 /// Why an axis trips: its following error passed its limit, or its integrator reached a limit that was set negative.
 #[derive(Clone, Copy)]
 pub enum Cause {
-    FollowingError,
-    Integrator,
+    FollowingError = 1,
+    Integrator = 2,
 }
 
 impl Cause {
@@ -14,9 +14,6 @@ impl Cause {
     pub fn number(self) -> u8
         ensures { result ≡ cause_number self }
     {
-        match self {
-            Cause::FollowingError => 1,
-            Cause::Integrator => 2,
-        }
+        self as u8
     }
 }

@@ -3,12 +3,13 @@
 
 mod arith;
 pub mod cause;
-mod errors;
+mod cycle;
 pub mod gains;
 mod integrator;
 pub mod memory;
 pub mod place;
 mod ranges;
+pub mod rate;
 pub mod settings;
 pub mod start;
 pub mod step;

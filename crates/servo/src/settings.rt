@@ -2,7 +2,7 @@
 use notch::notch::Coefficients;
 
 /// Gains as plain numbers, in range or not.
-#[derive(Clone, Copy)]
+#[derive(Clone, Copy, Default)]
 pub struct GainSettings {
     pub kp: i64,
     pub kd: i64,
@@ -12,6 +12,7 @@ pub struct GainSettings {
     /// E: the error counts up to this size.
     pub error_limit: i64,
     /// G: the integrator's size. Where it is negative, reaching it trips the axis.
+    // The sign stays in the number, as it comes in: a flag beside the size would be no plainer.
     pub integrator_limit: i64,
     /// F: a larger following error trips the axis.
     pub following_limit: i64,

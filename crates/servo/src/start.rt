@@ -4,19 +4,14 @@ ghost use Rattle.servo.specs.Memories.{memory_of, nothing, starting, sent_to};
 
 use crate::memory::Memory;
 use crate::place::Place;
+use crate::rate::Rate;
 
 impl Memory {
     /// The memory of an axis that is not closed: all 0.
     pub fn at_rest() -> Memory
         ensures { memory_of result ≡ nothing }
     {
-        Memory {
-            target: 0,
-            last_target: 0,
-            last_position: 0,
-            last_velocity: 0,
-            integrator: 0,
-        }
+        Memory::starting(Place { at: 0 })
     }
 
     /// The memory of an axis that is closed at x.
@@ -24,10 +19,10 @@ impl Memory {
         ensures { memory_of result ≡ starting x.at }
     {
         Memory {
-            target: x.at,
-            last_target: x.at,
-            last_position: x.at,
-            last_velocity: 0,
+            target: x,
+            last_target: x,
+            last_position: x,
+            last_velocity: Rate { value: 0 },
             integrator: 0,
         }
     }
@@ -36,12 +31,6 @@ impl Memory {
     pub fn send_to(&mut self, target: Place)
         ensures { memory_of self.new ≡ sent_to target.at (memory_of self.old) }
     {
-        *self = Memory {
-            target: target.at,
-            last_target: self.last_target,
-            last_position: self.last_position,
-            last_velocity: self.last_velocity,
-            integrator: self.integrator,
-        };
+        self.target = target;
     }
 }
