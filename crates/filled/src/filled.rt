@@ -3,6 +3,7 @@ ghost use Rattle.std.specs.Prelude.{◌≡◌, ◌≤◌, length};
 
 use std::alloc::AllocError;
 
+// The one count beside an array: what holds a table has no heap, and is copied, which the vectors of the library are not.
 /// At most `N` items, from the front of an array. What lies behind them is not seen.
 pub struct Filled<T, const N: usize> {
     pub(crate) places: [T; N],
