@@ -1,7 +1,6 @@
 -- How long the table text at the front of an input is.
-use Rattle.std.proofs.Common.{◌≡◌, ℕ, ◌+◌, ◌-◌, min, cond, List, [], ◌∷◌, ◌++◌, length, take, sym, ap, ◌∙◌, ⊎_elim, arith}
-use Rattle.std.proofs.lemmas.List.{length-append, take_all}
-use Rattle.std.proofs.lemmas.Bool.{cases_lt}
+use Rattle.std.proofs.Common.{◌≡◌, ℕ, ◌+◌, cond, List, [], ◌∷◌, ◌++◌, length, sym, ap, ◌∙◌, arith}
+use Rattle.std.proofs.lemmas.List.{length-append}
 use Rattle.lines.specs.Lines.{Cut, cut, joined_lines, CLOSE, same}
 use Rattle.lines.proofs.Cuts.{cut_joined, not_same}
 use Rattle.offset_report.specs.Inputs.{lines_length, table_length}
@@ -24,11 +23,3 @@ at_other s l after e c =
 
 pub at_end : (s : List ℕ) → cut s ≡ record { lines = []; left = s } → table_length s ≡ length s
 at_end s e = ap (λ (x : Cut). lines_length x.lines x.left) e
-
--- the front of a text, cut by its length or by the limit
-pub front_part : (s : List ℕ) (n : ℕ) → n ≡ min (length s) 65536 → take (n - 0) s ≡ take 65536 s
-front_part s n e =
-    ⊎_elim
-    (λ h. take_all (n - 0) s (omega arith) ∙ sym (take_all 65536 s (omega arith)))
-    (λ h. let k : n - 0 ≡ 65536 = omega arith in ap (λ i. take i s) k)
-    (cases_lt (length s) 65536)

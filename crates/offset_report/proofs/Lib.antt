@@ -1,4 +1,2 @@
-pub mod Following
 pub mod Lengths
 pub mod Reading
-pub mod Starting

@@ -1,5 +1,6 @@
 -- Which reports an input gives.
-use Rattle.std.specs.Prelude.{ℕ, ◌+◌, List, [], ◌∷◌, length, take, drop, pos, Some, None, Ok, Err, Result}
+use Rattle.std.specs.Prelude.{ℕ, ◌+◌, List, [], ◌∷◌, length, take, drop, pos, Some, None, Ok, Err, Option, Result}
+use Rattle.std.specs.Result.{result_map_both}
 use Rattle.banks.specs.Bank.{bank_means, set_up_refusal, started}
 use Rattle.banks.specs.declared.bank.Bank.{Bank}
 use Rattle.faults.specs.Faults.{at_line, text_fault}
@@ -7,41 +8,43 @@ use Rattle.faults.specs.declared.fault.Fault.{Fault}
 use Rattle.faults.specs.declared.fault.Refusal.{Refusal}
 use Rattle.gauges.specs.declared.gauge.Gauge.TheVariants.{Encoder}
 use Rattle.layers.specs.SheetLayers.{sheet_fit, table_put}
-use Rattle.lines.specs.Lines.{cut}
 use Rattle.sheets.specs.Tables.{Table}
-use Rattle.source.specs.Meaning.{Meaning}
+use Rattle.source.specs.Meaning.{Meaning, answer_of}
 use Rattle.table_text.specs.TableTexts.{reading}
-use Rattle.offset_report.specs.Inputs.{table_length, reading_of}
-use Rattle.offset_report.specs.Readings.{seen_at, unended, follow}
-use Rattle.offset_report.specs.Reports.{report_lines}
-use Rattle.offset_report.specs.declared.report.Report.{Report}
-use Rattle.offset_report.specs.declared.report.Report.TheVariants.{Refused}
+use Rattle.offset_report.specs.Inputs.{table_length, readings_from}
+use Rattle.offset_report.specs.Readings.{seen_at, said}
+use Rattle.offset_report.specs.Reports.{Report, report_lines}
 
 -- what a bank means
 abbrev pub bank_meaning : Bank → Meaning
-bank_meaning b = bank_means b.gauge b.count b.jump b.axes
+bank_meaning b = bank_means b.gauge (length b.axes.items) b.jump b.axes.items
 
 -- the bank that a reading line sets up: its form and its range are looked at first, then the bank's own refusals
 abbrev pub started_by : ℕ → Result ℕ Refusal → Result Meaning Fault
 started_by k (Err r) = Err (text_fault r k)
 started_by k (Ok x) = elim (set_up_refusal Encoder (x ∷ []) (pos 8388607)) [ None ↦ Ok (bank_means Encoder 1 8388607 (started Encoder (x ∷ []))) | Some f ↦ Err (at_line k f) ]
 
--- a table that does not fit is named by the line that closed it, and ends the readings
-abbrev pub put_on : Table → Meaning → ℕ → List (List ℕ) → List ℕ → List Report
-put_on t m k ls left =
-    elim (sheet_fit (Some t) (m [])) [
-      | Some f ↦ Refused (at_line (length t.entries + 2) f) ∷ []
-      | None ↦ seen_at k (table_put (Some t) m []) ∷ follow (table_put (Some t) m) (k + 1) ls left
-    ]
+-- the line that closed a table, as far as there is one
+abbrev pub close_line : Option Table → ℕ
+close_line None = 2
+close_line (Some t) = length t.entries + 2
+
+-- a table on a bank; where it does not fit, the fault names the line that closed it
+abbrev pub laid_on : Option Table → Meaning → Result Meaning Fault
+laid_on o m = result_map_both (λ _. table_put o m) (at_line (close_line o)) (answer_of (sheet_fit o (m [])))
+
+-- a table that does not fit ends the readings
+abbrev pub put_on : Option Table → Meaning → ℕ → List (ℕ × Result ℕ Refusal) → List Report
+put_on o m k rs = elim (laid_on o m) [ Err f ↦ Err f ∷ [] | Ok n ↦ seen_at k (n []) ∷ said n rs ]
 
 -- the first accepted reading sets the bank up; each one before it is refused, and the next is tried
-abbrev pub start : Table → ℕ → List (List ℕ) → List ℕ → List Report
-start t k [] left = unended k left
-start t k (l ∷ ls) left = elim (started_by k (reading_of l)) [ Err f ↦ Refused f ∷ start t (k + 1) ls left | Ok m ↦ put_on t m k ls left ]
+abbrev pub start : Option Table → List (ℕ × Result ℕ Refusal) → List Report
+start o [] = []
+start o (r ∷ rs) = elim (started_by r.0 r.1) [ Err f ↦ Err f ∷ start o rs | Ok m ↦ put_on o m r.0 rs ]
 
 abbrev pub after_table : Result Table Fault → List ℕ → List Report
-after_table (Err f) s = Refused f ∷ []
-after_table (Ok t) s = start t (length t.entries + 3) (cut s).lines (cut s).left
+after_table (Err f) s = Err f ∷ []
+after_table (Ok t) s = start (Some t) (readings_from (close_line (Some t) + 1) s)
 
 abbrev pub reports : List ℕ → List Report
 reports s = after_table (reading (take (table_length s) s)) (drop (table_length s) s)

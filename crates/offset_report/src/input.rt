@@ -10,6 +10,7 @@ use numerals::number::read_unsigned;
 const INPUT_LIMIT: usize = 65_536;
 
 /// How many bytes the table text at the front of an input takes.
+#[tactic(auto, using(crate::proofs::Lengths::line_length, crate::proofs::Lengths::at_close, crate::proofs::Lengths::at_other, crate::proofs::Lengths::at_end))]
 fn table_length(input: &[u8]) -> usize
     ensures value { result ≡ table_length input.now }
     ensures bound { result ≤ length input.now }
@@ -25,11 +26,12 @@ fn table_length(input: &[u8]) -> usize
 }
 
 /// The part of an input that is read.
+#[tactic(auto, using(std::proofs::lemmas::List::take_min))]
 fn read_part(input: &[u8]) -> &[u8]
     ensures value { result.now ≡ take 65536 input.now }
     ensures bound { length result.now ≤ 65536 }
 {
-    &input[0..input.len().min(INPUT_LIMIT)]
+    &input[..INPUT_LIMIT.min(input.len())]
 }
 
 /// Cuts the part of an input that is read behind its table text.
@@ -47,11 +49,6 @@ pub(crate) fn cut_input(input: &[u8]) -> (&[u8], &[u8])
 pub(crate) fn read_reading(line: &[u8]) -> Result<u32, Refusal>
     ensures { result ≡ reading_of line.now }
 {
-    let Some(number) = read_unsigned(line) else {
-        return Err(Refusal::WrongForm);
-    };
-    if number > 4_294_967_295 {
-        return Err(Refusal::OutOfRange);
-    }
-    Ok(number as u32)
+    let number = read_unsigned(line).ok_or(Refusal::WrongForm)?;
+    u32::try_from(number).map_err(|_| Refusal::OutOfRange)
 }

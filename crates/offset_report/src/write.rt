@@ -1,30 +1,28 @@
-//! A report, written.
-ghost use Rattle.std.specs.Prelude.{◌≡◌, [], ◌∷◌, ◌++◌, codes, decimal, OnOk};
-ghost use Rattle.std.specs.Fmt.{signed_decimal};
-ghost use Rattle.offset_report.specs.Reports.{report_line};
+//! How a report is printed.
+ghost use Rattle.std.specs.Prelude.{◌≡◌, ◌++◌, Some, OnOk, string_bytes};
+ghost use Rattle.offset_report.specs.Reports.{standing_text, report_line};
 
-use crate::report::Report;
-use lines::output::{put_signed, put_unsigned};
+use crate::standing::Standing;
+use faults::fault::Fault;
 use std::alloc::AllocError;
+use std::fmt;
 
-fn put_position(out: &mut Vec<u8>, line: usize, bare: i64, offset: i64) -> Result<(), AllocError>
-    ensures { OnOk result (out.new.items ≡ out.old.items ++ ((codes "line=" ++ decimal line) ++ ((codes " bare=" ++ signed_decimal bare) ++ ((codes " offset=" ++ signed_decimal offset) ++ 10 ∷ [])))) }
-{
-    put_unsigned(out, b"line=", line as u64)?;
-    put_signed(out, b" bare=", bare)?;
-    put_signed(out, b" offset=", offset)?;
-    out.extend_from_slice(b"\n")?;
-    Ok(())
+/// As `line=8 bare=80 offset=-8`.
+impl fmt::Display for Standing {
+    ghost output = { λ s. Some (standing_text s) };
+
+    fn fmt<W: fmt::Write>(&self, f: &mut fmt::Formatter<W>) -> fmt::Result {
+        let Standing { line, bare, offset } = *self;
+        write!(f, "line={line} bare={bare} offset={offset}")
+    }
 }
 
-impl Report {
-    /// Puts the report's line at the end of an output.
-    pub fn put(&self, out: &mut Vec<u8>) -> Result<(), AllocError>
-        ensures { OnOk result (out.new.items ≡ out.old.items ++ report_line self.now) }
-    {
-        match *self {
-            Report::Position { line, bare, offset } => put_position(out, line, bare, offset),
-            Report::Refused(fault) => fault.put(out),
-        }
+/// Puts a report's line at the end of an output.
+pub(crate) fn put(out: &mut String, report: Result<Standing, Fault>) -> Result<(), AllocError>
+    ensures { OnOk result (string_bytes out.new ≡ string_bytes out.old ++ report_line report) }
+{
+    match report {
+        Ok(standing) => writeln!(out, "{standing}"),
+        Err(fault) => writeln!(out, "{fault}"),
     }
 }

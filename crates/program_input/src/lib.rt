@@ -10,19 +10,9 @@ use std::io::Read;
 pub fn read_input(rt: &HostRuntime, limit: usize) -> io::Result<Vec<u8>>
     ensures { IfOk result (λ input. vec_len input ≤ limit) }
 {
-    let mut input = vec![in rt.alloc(); 0; limit]?;
-    let mut filled = 0;
-    let mut stdin = rt.stdin();
-    for _ in 0..limit {
-        if filled >= input.len() {
-            break;
-        }
-        let count = stdin.read(&mut input[filled..])?;
-        if count == 0 {
-            break;
-        }
-        filled += count;
-    }
-    input.truncate(filled);
+    let mut input = Vec::new(rt.alloc());
+    rt.stdin().take(limit as u64).read_to_end(&mut input)?;
+    // `take` stops there already, but promises it only of a reader whose bytes are known.
+    input.truncate(limit);
     Ok(input)
 }
