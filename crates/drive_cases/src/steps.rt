@@ -48,6 +48,7 @@ fn fold_float(h: u64, x: f64) -> u64 {
     fold(h, if x.is_nan() { 0 } else { x.to_bits() })
 }
 
+// Numbers for the states: the independent drive folds the same ones into its checksum.
 fn fold_motor(h: u64, motor: &Motor) -> u64 {
     let state = match motor.state {
         State::Killed => 0,

@@ -8,6 +8,7 @@ use motor::motor::Motor;
 use source::source::Source;
 
 /// A source of positions, and a motor for each of its axes.
+// Contracts see it through `mill_of`; a model would say the same and change the words of every caller.
 #[derive(Drop)]
 pub struct Machine<S: Source> {
     pub(crate) source: S,

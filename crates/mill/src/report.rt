@@ -8,6 +8,7 @@ pub struct Report {
     pub offset: i64,
     pub position: i64,
     /// How far a closed motor is from its target; 0 for one that is not closed.
+    // No Option: the rule answers 0 there, and the state beside it says which it is.
     pub following_error: i64,
     pub state: State,
     pub output: i32,

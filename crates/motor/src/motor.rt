@@ -9,6 +9,7 @@ use servo::memory::Memory;
 
 /// A motor: its state, its correction switch, its gains, what it remembers, and what it puts out.
 /// No output passes its limit, and a motor that is not closed puts out 0.
+// The correction is a switch that goes by no other field, so it is a bool.
 #[derive(Clone, Copy)]
 pub struct Motor {
     pub state: State,

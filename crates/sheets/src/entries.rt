@@ -28,6 +28,7 @@ impl Begun {
         }
     }
 
+    // The bound is what public calls promise of a count; a type for it would be opened by each of them.
     /// How many entries are in.
     pub(crate) fn count(&self) -> usize
         ensures value { result ≡ length (begun self.now).entries }

@@ -20,6 +20,7 @@ fn read_table(sheet: &mut Sheet, text: &[u8]) -> Result<(), Fault>
     read_text(sheet, text)
 }
 
+// What it says of the sheet is what the calls below it say: a type could not, since it speaks of before and after.
 /// Reads a text into a sheet and writes the sheet into a row: a text that is accepted comes back byte for byte.
 pub fn copy_text(sheet: &mut Sheet, text: &[u8], out: &mut [u8]) -> Result<usize, Fault>
     ensures answer { result ≡ copying text.now out.old }
