@@ -1,12 +1,13 @@
 -- Each reported offset is the table's value at the reported position.
-use Rattle.std.proofs.Common.{◌≡◌, ℕ, zero, suc, ◌+◌, ◌≤◌, Bool, true, cond, eqb, ltb, List, [], ◌∷◌, length, take, drop, ℤ, pos, ◌+ℤ◌, Some, None, Ok, Err, Option, Result, sym, refl, ap, ◌∙◌, subst, arith, lit≤}
+use Rattle.std.proofs.Common.{◌≡◌, ℕ, zero, suc, ◌+◌, ◌≤◌, Bool, true, cond, eqb, ltb, List, [], ◌∷◌, take, drop, ℤ, pos, ◌+ℤ◌, Some, None, Ok, Err, Option, Result, sym, refl, ap, ◌∙◌, subst, arith, lit≤}
 use Rattle.std.specs.List.{AllByRecursion}
+use Rattle.std.specs.Result.{result_map_both}
 use Rattle.std.proofs.lemmas.Int.{ints}
 use Rattle.std.proofs.lemmas.Bool.{ltb-true, eq-eqb}
 use Rattle.banks.specs.Axes.{AllNear}
 use Rattle.banks.specs.Bank.{bank_means, set_up_refusal, started}
 use Rattle.banks.specs.BankProofs.{bank_lawful}
-use Rattle.faults.specs.Faults.{at_line, text_fault}
+use Rattle.faults.specs.Faults.{at_line}
 use Rattle.faults.specs.declared.fault.Fault.{Fault}
 use Rattle.faults.specs.declared.fault.Refusal.{Refusal}
 use Rattle.gauges.specs.declared.gauge.Axis.{Axis}
@@ -17,17 +18,15 @@ use Rattle.layers.specs.SheetLayers.{sheet_fit, table_put, value_seen}
 use Rattle.layers.specs.SheetLaws.{fits, sheet_fit_same, table_after}
 use Rattle.rounding.specs.Bounds.{Within}
 use Rattle.sheets.specs.Tables.{Table, Valid}
-use Rattle.source.specs.Meaning.{Rows, Meaning, Lawful, no_axis, past, after, after_of}
+use Rattle.source.specs.Meaning.{Rows, Meaning, Lawful, no_axis, answer_of, past, after, after_of}
 use Rattle.values.specs.Values.{value}
 use Rattle.values.proofs.Halves.{value_half}
 use Rattle.values.proofs.Points.{value_on_points}
-use Rattle.lines.specs.Lines.{cut}
 use Rattle.text_law.proofs.WholeTexts.{law_only}
-use Rattle.offset_report.specs.Inputs.{table_length, reading_of}
-use Rattle.offset_report.specs.Offsets.{started_by, start, after_table}
-use Rattle.offset_report.specs.Readings.{seen_at, offered_at, unended, follow}
-use Rattle.offset_report.specs.declared.report.Report.TheVariants.{Position, Refused}
-use Rattle.offset_report.proofs.Starting.{either, fitted}
+use Rattle.offset_report.specs.Inputs.{table_length, readings_from}
+use Rattle.offset_report.specs.Offsets.{started_by, close_line, put_on, start, after_table}
+use Rattle.offset_report.specs.Readings.{seen_at, offered_at, said_at, after_reading, said}
+use Rattle.offset_report.specs.Reports.{Report}
 use Rattle.offset_law.specs.OffsetLaws.{Corrects, Told, OffsetsCorrect}
 
 -- a source of one axis with no offset of its own
@@ -82,14 +81,14 @@ value_shown t b h =
     ∙ ap (λ (a : ℕ). value t ((b []).bare a) ((b []).bare (column_axis t.head))) row
     ∙ ap (λ (a : ℕ). value t ((b []).bare 0) ((b []).bare a)) column
 
-shown : (t : Table) (b : Meaning) (k : ℕ) → Standing t b → seen_at k (table_put (Some t) b []) ≡ Position k ((b []).bare 0) (value t ((b []).bare 0) ((b []).bare 0))
+shown : (t : Table) (b : Meaning) (k : ℕ) → Standing t b → seen_at k (table_put (Some t) b []) ≡ Ok (record { line = k; bare = (b []).bare 0; offset = value t ((b []).bare 0) ((b []).bare 0) })
 shown t b k h =
     let here : ltb 0 (b []).axes ≡ true = ap (ltb 0) (h.single.axes []) in
     ap (λ (c : Bool). elim (cond c (Ok ((b []).bare 0)) (Err (no_axis 0))) [
-      | Err f ↦ Refused (at_line k f)
-      | Ok p ↦ elim (cond c (Ok ((table_put (Some t) b []).offset 0)) (Err (no_axis 0))) [ Err f ↦ Refused (at_line k f) | Ok o ↦ Position k p o ]
+      | Err f ↦ Err (at_line k f)
+      | Ok p ↦ elim (cond c (Ok ((table_put (Some t) b []).offset 0)) (Err (no_axis 0))) [ Err f ↦ Err (at_line k f) | Ok o ↦ Ok (record { line = k; bare = p; offset = o }) ]
     ]) here
-    ∙ ap (λ (o : ℤ). Position k ((b []).bare 0) o) (value_shown t b h)
+    ∙ ap (λ (o : ℤ). Ok (record { line = k; bare = (b []).bare 0; offset = o })) (value_shown t b h)
 
 corrects : (t : Table) (p : ℤ) → Valid t → Within 1099511627776 p → Corrects t p (value t p p)
 corrects t p v w = record { limit = w; half = value_half t p p v; points = λ on. (value_on_points t p p v on).entry }
@@ -97,34 +96,34 @@ corrects t p v w = record { limit = w; half = value_half t p p v; points = λ on
 told_seen : (t : Table) (b : Meaning) (k : ℕ) → Valid t → Standing t b → Told t (seen_at k (table_put (Some t) b []))
 told_seen t b k v h = subst (Told t) (sym (shown t b k h)) (corrects t ((b []).bare 0) v (h.single.lawful.bare [] 0))
 
-told_end : (t : Table) (k : ℕ) (left : List ℕ) → AllByRecursion (Told t) (unended k left)
-told_end t k [] = tt
-told_end t k (c ∷ cs) = (tt, tt)
-
 told_offered : (t : Table) (b : Meaning) (k : ℕ) (o : Option Fault) → Valid t → Standing t b → Told t (offered_at k o (table_put (Some t) b []))
 told_offered t b k None v h = told_seen t b k v h
 told_offered t b k (Some f) v h = tt
 
-pub told_follow : (t : Table) (b : Meaning) (k : ℕ) (ls : List (List ℕ)) (left : List ℕ) → Valid t → Standing t b → AllByRecursion (Told t) (follow (table_put (Some t) b) k ls left)
-told_follow t b k [] left v h = told_end t k left
-told_follow t b k (l ∷ ls) left v h =
-    elim (reading_of l) as (λ r.
-    Told t (elim r [ Err q ↦ Refused (text_fault q k) | Ok x ↦ offered_at k ((table_put (Some t) b []).refusal (x ∷ [])) (after (table_put (Some t) b) (x ∷ []) []) ])
-    × AllByRecursion (Told t) (follow (elim r [ Err q ↦ table_put (Some t) b | Ok x ↦ after (table_put (Some t) b) (x ∷ []) ]) (k + 1) ls left)) [
-      | Err q ↦ (tt, told_follow t b (k + 1) ls left v h)
+told_said : (t : Table) (b : Meaning) (rs : List (ℕ × Result ℕ Refusal)) → Valid t → Standing t b → AllByRecursion (Told t) (said (table_put (Some t) b) rs)
+told_said t b [] v h = tt
+told_said t b (r ∷ rs) v h =
+    elim r.1 as (λ q. Told t (said_at r.0 (table_put (Some t) b) q) × AllByRecursion (Told t) (said (after_reading (table_put (Some t) b) q) rs)) [
+      | Err q ↦ (tt, told_said t b rs v h)
       | Ok x ↦
           let row = x ∷ [] in
-          let n = after b row in
           let on = stands_on ((b []).refusal row) t b row h in
           let e = table_after (Some t) b row h.single.lawful in (
-            subst (λ (m : Meaning). Told t (offered_at k ((table_put (Some t) b []).refusal (x ∷ [])) (m []))) e (told_offered t (after b (x ∷ [])) k ((b []).refusal (x ∷ [])) v on),
-            subst (λ (m : Meaning). AllByRecursion (Told t) (follow m (k + 1) ls left)) e (told_follow t (after b (x ∷ [])) (k + 1) ls left v on),
+            subst (λ (m : Meaning). Told t (offered_at r.0 ((table_put (Some t) b []).refusal (x ∷ [])) (m []))) e (told_offered t (after b (x ∷ [])) r.0 ((b []).refusal (x ∷ [])) v on),
+            subst (λ (m : Meaning). AllByRecursion (Told t) (said m rs)) e (told_said t (after b (x ∷ [])) rs v on),
           )
     ]
 
-told_fitted : (o : Option Fault) (t : Table) (m : Meaning) (k : ℕ) (ls : List (List ℕ)) (left : List ℕ) → sheet_fit (Some t) (m []) ≡ o → Valid t → Single m → AllByRecursion (Told t) (fitted t m k ls left o)
-told_fitted (Some f) t m k ls left e v h = (tt, tt)
-told_fitted None t m k ls left e v h = let on : Standing t m = record { single = h; fit = e } in (told_seen t m k v on, told_follow t m (k + 1) ls left v on)
+-- the table that is laid on a bank, or not
+abbrev laid_by : Table → Meaning → Option Fault → Result Meaning Fault
+laid_by t m o = result_map_both (λ _. table_put (Some t) m) (at_line (close_line (Some t))) (answer_of o)
+
+abbrev after_laid : ℕ → List (ℕ × Result ℕ Refusal) → Result Meaning Fault → List Report
+after_laid k rs r = elim r [ Err f ↦ Err f ∷ [] | Ok n ↦ seen_at k (n []) ∷ said n rs ]
+
+told_laid : (o : Option Fault) (t : Table) (m : Meaning) (k : ℕ) (rs : List (ℕ × Result ℕ Refusal)) → sheet_fit (Some t) (m []) ≡ o → Valid t → Single m → AllByRecursion (Told t) (after_laid k rs (laid_by t m o))
+told_laid (Some f) t m k rs e v h = (tt, tt)
+told_laid None t m k rs e v h = let on : Standing t m = record { single = h; fit = e } in (told_seen t m k v on, told_said t m rs v on)
 
 none_far : (held : List Axis) → AllByRecursion (λ a. a.position ≡ pos 0) held → AllNear held
 none_far [] h i = (omega (arith, ints), omega (arith, ints))
@@ -139,21 +138,23 @@ bank_single x = record {
 }
 
 -- the bank that a line sets up, or not
-told_started : (t : Table) (k : ℕ) (ls : List (List ℕ)) (left : List ℕ) (r : Result ℕ Refusal) → Valid t → AllByRecursion (Told t) (start t (k + 1) ls left) → AllByRecursion (Told t) (either t k ls left (started_by k r))
-told_started t k ls left (Err q) v rest = (tt, rest)
-told_started t k ls left (Ok x) v rest =
-    elim (set_up_refusal Encoder (x ∷ []) (pos 8388607)) as (λ o. AllByRecursion (Told t) (either t k ls left (elim o [ None ↦ Ok (bank_means Encoder 1 8388607 (started Encoder (x ∷ []))) | Some f ↦ Err (at_line k f) ]))) [
-      | None ↦ told_fitted (sheet_fit (Some t) (bank_means Encoder 1 8388607 (started Encoder (x ∷ [])) [])) t (bank_means Encoder 1 8388607 (started Encoder (x ∷ []))) k ls left refl v (bank_single x)
+abbrev after_start : Table → ℕ → List (ℕ × Result ℕ Refusal) → Result Meaning Fault → List Report
+after_start t k rs r = elim r [ Err f ↦ Err f ∷ start (Some t) rs | Ok m ↦ put_on (Some t) m k rs ]
+
+told_started : (t : Table) (k : ℕ) (rs : List (ℕ × Result ℕ Refusal)) (r : Result ℕ Refusal) → Valid t → AllByRecursion (Told t) (start (Some t) rs) → AllByRecursion (Told t) (after_start t k rs (started_by k r))
+told_started t k rs (Err q) v rest = (tt, rest)
+told_started t k rs (Ok x) v rest =
+    elim (set_up_refusal Encoder (x ∷ []) (pos 8388607)) as (λ o. AllByRecursion (Told t) (after_start t k rs (elim o [ None ↦ Ok (bank_means Encoder 1 8388607 (started Encoder (x ∷ []))) | Some f ↦ Err (at_line k f) ]))) [
+      | None ↦ told_laid (sheet_fit (Some t) (bank_means Encoder 1 8388607 (started Encoder (x ∷ [])) [])) t (bank_means Encoder 1 8388607 (started Encoder (x ∷ []))) k rs refl v (bank_single x)
       | Some f ↦ (tt, rest)
     ]
 
--- every line behind a table
-told_lines : (t : Table) (k : ℕ) (ls : List (List ℕ)) (left : List ℕ) → Valid t → AllByRecursion (Told t) (start t k ls left)
-told_lines t k [] left v = told_end t k left
-told_lines t k (l ∷ ls) left v = told_started t k ls left (reading_of l) v (told_lines t (k + 1) ls left v)
+-- every reading behind a table
+told_start : (t : Table) (rs : List (ℕ × Result ℕ Refusal)) → Valid t → AllByRecursion (Told t) (start (Some t) rs)
+told_start t [] v = tt
+told_start t (r ∷ rs) v = told_started t r.0 rs r.1 v (told_start t rs v)
 
 pub offsets_correct : OffsetsCorrect
 offsets_correct s t e =
-    let rest = drop (table_length s) s in
     let v = (law_only (take (table_length s) s) t e).0 in
-    subst (λ (r : Result Table Fault). AllByRecursion (Told t) (after_table r (drop (table_length s) s))) (sym e) (told_lines t (length t.entries + 3) (cut rest).lines (cut rest).left v)
+    subst (λ (r : Result Table Fault). AllByRecursion (Told t) (after_table r (drop (table_length s) s))) (sym e) (told_start t (readings_from (close_line (Some t) + 1) (drop (table_length s) s)) v)

@@ -1,11 +1,10 @@
 -- The laws of what `offsets` reports, in the words of tables and positions.
-use Rattle.std.specs.Prelude.{◌≡◌, ℕ, zero, suc, ◌+◌, List, [], ◌∷◌, map, length, take, ℤ, pos, ◌-ℤ◌, ◌*ℤ◌, Some, Ok, Option}
+use Rattle.std.specs.Prelude.{◌≡◌, ℕ, zero, suc, ◌+◌, List, [], ◌∷◌, map, length, take, ℤ, pos, ◌-ℤ◌, ◌*ℤ◌, Some, Ok, Err, Option}
 use Rattle.std.specs.List.{AllByRecursion}
 use Rattle.offset_report.specs.Inputs.{table_length}
 use Rattle.offset_report.specs.Offsets.{reports}
 use Rattle.offset_report.specs.Readings.{follow}
-use Rattle.offset_report.specs.declared.report.Report.{Report}
-use Rattle.offset_report.specs.declared.report.Report.TheVariants.{Position, Refused}
+use Rattle.offset_report.specs.Reports.{Report}
 use Rattle.rounding.specs.Bounds.{Within}
 use Rattle.sheets.specs.Tables.{Table}
 use Rattle.source.specs.Meaning.{Meaning}
@@ -19,8 +18,8 @@ pub record Corrects (t : Table) (p o : ℤ) : Type 0 where
   pub points : OnPoint t p p → o ≡ point t p p
 
 abbrev pub Told : Table → Report → Type 0
-Told t (Position k p o) = Corrects t p o
-Told t (Refused f) = Unit {0}
+Told t (Ok s) = Corrects t s.bare s.offset
+Told t (Err f) = Unit {0}
 
 -- every report of an input whose table text is read as t
 abbrev pub OffsetsCorrect : Type 0
@@ -28,8 +27,8 @@ OffsetsCorrect = (s : List ℕ) (t : Table) → reading (take (table_length s) s
 
 -- the line that a report names
 abbrev pub line_of : Report → Option ℕ
-line_of (Position k p o) = Some k
-line_of (Refused f) = f.line
+line_of (Ok s) = Some s.line
+line_of (Err f) = f.line
 
 abbrev pub numbered : ℕ → ℕ → List (Option ℕ)
 numbered k zero = []
