@@ -23,3 +23,5 @@ at_other s l after e c =
 
 pub at_end : (s : List ℕ) → cut s ≡ record { lines = []; left = s } → table_length s ≡ length s
 at_end s e = ap (λ (x : Cut). lines_length x.lines x.left) e
+
+pub ruleset table_lengths = (line_length, at_close, at_other, at_end)

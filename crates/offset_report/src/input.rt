@@ -10,11 +10,12 @@ use numerals::number::read_unsigned;
 const INPUT_LIMIT: usize = 65_536;
 
 /// How many bytes the table text at the front of an input takes.
-#[tactic(auto, using(crate::proofs::Lengths::line_length, crate::proofs::Lengths::at_close, crate::proofs::Lengths::at_other, crate::proofs::Lengths::at_end))]
+#[tactic(auto, using(crate::proofs::Lengths::table_lengths))]
 fn table_length(input: &[u8]) -> usize
     ensures value { result ≡ table_length input.now }
     ensures bound { result ≤ length input.now }
 {
+    // A chain over the lines would add up their lengths, which here the text behind the line tells.
     let mut rest = input;
     while let Some((line, after)) = split_line(rest) {
         if is_close(line) {
@@ -36,8 +37,10 @@ fn read_part(input: &[u8]) -> &[u8]
 
 /// Cuts the part of an input that is read behind its table text.
 pub(crate) fn cut_input(input: &[u8]) -> (&[u8], &[u8])
-    ensures table { result.0.now ≡ take (table_length (take 65536 input.now)) (take 65536 input.now) }
-    ensures readings { result.1.now ≡ drop (table_length (take 65536 input.now)) (take 65536 input.now) }
+    ensures table { let front = take 65536 input.now in
+        result.0.now ≡ take (table_length front) front }
+    ensures readings { let front = take 65536 input.now in
+        result.1.now ≡ drop (table_length front) front }
     ensures bound { length result.1.now ≤ 65536 }
 {
     let input = read_part(input);

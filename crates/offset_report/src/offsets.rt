@@ -79,6 +79,7 @@ fn start(out: &mut String, sheet: &Sheet, mut readings: Readings<'_>) -> Result<
         ≡ string_bytes out.old
         ++ report_lines (started (held sheet.now) (readings_left readings.entry))) }
 {
+    // No `for`: the readings behind the first accepted one go on to `put_on`.
     while let Some((line, reading)) = readings.next() {
         match start_bank(line, reading) {
             Ok(bank) => return put_on(out, sheet, bank, line, readings),
