@@ -9,60 +9,48 @@ fn writes(rt: &(impl Abort + AllocGlobal), input: &[u8], output: &[u8]) -> Resul
     Ok(())
 }
 
-/// Texts that are no table's: the refusal and its line.
-#[test]
-fn refuses_tables(rt: HostRuntime) -> Result<(), Fail> {
-    writes(&rt, b"", b"refused=1 line=1 from=text\n")?;
-    writes(
-        &rt,
-        b"DEFINE COMP 2,#1,#1,10",
-        b"refused=1 line=1 from=text\n",
-    )?;
-    writes(
-        &rt,
+/// Texts that are no table's, each with its refusal and line.
+const NO_TABLES: [(&[u8], &[u8]); 11] = [
+    (b"", b"refused=1 line=1 from=text\n"),
+    (b"DEFINE COMP 2,#1,#1,10", b"refused=1 line=1 from=text\n"),
+    (
         b"DEFINE COMP 2,#1,#1,010\n",
         b"refused=1 line=1 from=text\n",
-    )?;
-    writes(
-        &rt,
+    ),
+    (
         b"DEFINE COMP 257,#1,#1,10\n",
         b"refused=2 line=1 from=text\n",
-    )?;
-    writes(
-        &rt,
-        b"DEFINE COMP 2,#9,#1,10\n",
-        b"refused=2 line=1 from=text\n",
-    )?;
-    writes(
-        &rt,
-        b"DEFINE COMP 2,#1,#1,10\n",
-        b"refused=7 line=2 from=text\n",
-    )?;
-    writes(
-        &rt,
+    ),
+    (b"DEFINE COMP 2,#9,#1,10\n", b"refused=2 line=1 from=text\n"),
+    (b"DEFINE COMP 2,#1,#1,10\n", b"refused=7 line=2 from=text\n"),
+    (
         b"DEFINE COMP 2,#1,#1,10\n-0\n",
         b"refused=1 line=2 from=text\n",
-    )?;
-    writes(
-        &rt,
+    ),
+    (
         b"DEFINE COMP 2,#1,#1,10\n1\n-32768\n",
         b"refused=2 line=3 from=text\n",
-    )?;
-    writes(
-        &rt,
+    ),
+    (
         b"DEFINE COMP 2,#1,#1,10\n1\nCLOSE\n",
         b"refused=7 line=3 from=text\n",
-    )?;
-    writes(
-        &rt,
+    ),
+    (
         b"DEFINE COMP 2,#1,#1,10\n1\n2\n99999\n",
         b"refused=6 line=4 from=text\n",
-    )?;
-    writes(
-        &rt,
+    ),
+    (
         b"DEFINE COMP 1.1,#1,#1,#1,1,262145\n",
         b"refused=2 line=1 from=text\n",
-    )
+    ),
+];
+
+#[test]
+fn refuses_tables(rt: HostRuntime) -> Result<(), Fail> {
+    for (text, refusal) in NO_TABLES {
+        writes(&rt, text, refusal)?;
+    }
+    Ok(())
 }
 
 /// Readings that are refused, each of which leaves the next to be tried.
