@@ -33,10 +33,8 @@ impl Iterator for Readings<'_> {
             Some((text, rest)) => (read_reading(text), rest),
             None => (Err(Refusal::WrongForm), b"".as_slice()),
         };
-        *self = Readings {
-            line: line + 1,
-            rest,
-        };
+        self.rest = rest;
+        self.line += 1;
         Some((line, reading))
     }
 }
