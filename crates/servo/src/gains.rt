@@ -23,20 +23,24 @@ fn accepted(settings: GainSettings) -> Gains
     Gains { settings }
 }
 
-impl Gains {
-    /// The gains, where each is in its range.
-    pub fn checked(settings: GainSettings) -> Result<Gains, Fault>
-        ensures { MatchResult result
-            (λ g. (fits settings ≡ true) × (g.settings ≡ settings))
-            (λ f. (fits settings ≡ false) × (f ≡ out_of_range)) }
-    {
+/// The gains, where each is in its range.
+impl TryFrom<GainSettings> for Gains {
+    type Error = Fault;
+
+    ghost try_from_gives = { λ settings r. MatchResult r
+        (λ g. (fits settings ≡ true) × (g.settings ≡ settings))
+        (λ f. (fits settings ≡ false) × (f ≡ out_of_range)) };
+
+    fn try_from(settings: GainSettings) -> Result<Gains, Fault> {
         if are_fit(&settings) {
             Ok(accepted(settings))
         } else {
             Err(Fault::of(Part::Machine, Refusal::OutOfRange))
         }
     }
+}
 
+impl Gains {
     /// Is the output at its limit?
     pub fn is_at_limit(&self, output: i32) -> bool
         ensures { result ≡ at_limit self.now.settings output }
