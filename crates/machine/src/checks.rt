@@ -6,7 +6,6 @@ ghost use Rattle.machine.specs.Machines.{mill_of};
 
 use crate::axis::{Axis, Present};
 use crate::machine::Machine;
-use crate::place::standing;
 use faults::fault::{Fault, Part, Refusal};
 use servo::gains::Gains;
 use servo::place::Place;
@@ -33,7 +32,7 @@ pub(crate) fn fit(axis: usize, settings: GainSettings) -> Result<Gains, Fault>
     ensures { let check = unfit axis settings in
         MatchResult result (λ g. (check ≡ None) × (g.settings ≡ settings)) (λ f. check ≡ Some f) }
 {
-    Gains::checked(settings).map_err(|fault| fault.on_axis(axis))
+    Gains::try_from(settings).map_err(|fault| fault.on_axis(axis))
 }
 
 // A target, and 2 for one beyond the position limit.
@@ -41,9 +40,7 @@ pub(crate) fn within_reach(axis: usize, target: i64) -> Result<Place, Fault>
     ensures { let check = too_far axis target in
         MatchResult result (λ p. (check ≡ None) × (p.at ≡ target)) (λ f. check ≡ Some f) }
 {
-    let near = target.unsigned_abs() <= 1_099_511_627_776;
-    passes(near, refused(Refusal::OutOfRange, axis))?;
-    Ok(standing(target))
+    Place::within_reach(target).map_err(|fault| fault.on_axis(axis))
 }
 
 impl<S: Source> Machine<S> {

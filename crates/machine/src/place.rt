@@ -43,7 +43,7 @@ impl<S: Source> Present<'_, S> {
             result ≡ seen.offset self.now.axis.number }
         ensures near { Within 524272 result }
     {
-        offset_below(&self.machine.source, self.axis.number).unwrap_or(0)
+        offset_below(&self.machine.source, self.axis.number).unwrap()
     }
 
     // The position that the motor of an axis works with.

@@ -1,9 +1,10 @@
 //! One cycle of a motor.
 ghost use Rattle.std.specs.Prelude.{◌≡◌, ◌≤◌, unsigned_abs};
 ghost use Rattle.motor.specs.Motors.{acted, stepped, view};
+ghost use Rattle.motor.specs.declared.state.State.{State};
 
 use crate::motor::Motor;
-use crate::state::{Event, State};
+use crate::state::Event;
 use servo::place::Place;
 
 impl Motor {
@@ -26,12 +27,13 @@ impl Motor {
     }
 
     /// One cycle at x, and what the motor then puts out: 0 unless it is closed, and never more than its limit.
+    #[tactic(auto, using(crate::proofs::Cycles::either))]
     pub fn step(&mut self, x: Place) -> i32
         ensures out { result ≡ self.new.output }
         ensures bound { unsigned_abs result ≤ unsigned_abs self.old.gains.settings.output_limit }
         ensures next { view self.new ≡ stepped x.at (view self.old) }
     {
-        if let State::Closed = self.state {
+        if self.is_closed() {
             self.act(x);
         }
         self.output

@@ -1,30 +1,15 @@
 //! What an axis would put out at an error, with its integrator left out.
-ghost use Rattle.std.specs.Prelude.{◌≡◌, true, false, MatchResult};
-ghost use Rattle.motor.specs.Replies.{is_reach, lagging, measured, replied, reply_answer};
+ghost use Rattle.std.specs.Prelude.{◌≡◌};
+ghost use Rattle.motor.specs.Replies.{lagging, measured, replied, reply_answer};
 ghost use Rattle.servo.specs.Memories.{memory_of};
-ghost use Rattle.servo.specs.Ranges.{out_of_range};
 
 use crate::guard::WithoutKi;
-use faults::fault::{Fault, Part, Refusal};
+use faults::fault::Fault;
 use notch::notch::Notch;
 use servo::gains::Gains;
 use servo::memory::Memory;
 use servo::place::Place;
 use servo::settings::GainSettings;
-
-// The target at an error within the position limit.
-#[tactic(auto, unfolding(servo::specs::Ranges::within))]
-fn reach(e0: i64) -> Result<Place, Fault>
-    ensures { MatchResult result
-        (λ t. (is_reach e0 ≡ true) × (t.at ≡ e0))
-        (λ f. (is_reach e0 ≡ false) × (f ≡ out_of_range)) }
-{
-    if (-1_099_511_627_776..=1_099_511_627_776).contains(&e0) {
-        Ok(Place { at: e0 })
-    } else {
-        Err(Fault::of(Part::Machine, Refusal::OutOfRange))
-    }
-}
 
 // The memory of an axis that stands at 0 and whose target was there before: no velocity, nothing integrated.
 fn lag(target: Place) -> Memory
@@ -48,12 +33,12 @@ fn put_out(gains: &Gains, mut memory: Memory) -> i32
 }
 
 // The reply of gains that are used as they stand.
-#[tactic(auto, unfolding(crate::specs::Replies::measured))]
+#[tactic(auto, unfolding(crate::specs::Replies::measured, servo::specs::Ranges::within))]
 fn measure(settings: &GainSettings, e0: i64) -> Result<i32, Fault>
     ensures { result ≡ measured settings.now e0 }
 {
-    let gains = Gains::checked(*settings)?;
-    let target = reach(e0)?;
+    let gains = Gains::try_from(*settings)?;
+    let target = Place::within_reach(e0)?;
     Ok(put_out(&gains, lag(target)))
 }
 
@@ -63,7 +48,7 @@ pub fn reply(gains: &mut GainSettings, e0: i64) -> Result<i32, Fault>
     ensures answer { result ≡ reply_answer gains.old e0 }
     ensures restored { gains.new ≡ gains.old }
 {
-    Gains::checked(*gains)?;
+    Gains::try_from(*gains)?;
     let without = WithoutKi::new(gains);
     measure(without.gains, e0)
 }
