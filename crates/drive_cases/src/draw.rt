@@ -1,5 +1,7 @@
 //! Random numbers, the same at each run.
-ghost use Rattle.std.specs.Prelude.{◌^◌, ◌<◌, ◌≤◌};
+ghost use Rattle.std.specs.Prelude.{◌^◌, ◌<◌, ◌≤◌, unsigned_abs};
+
+use servo::place::Place;
 
 #[derive(Drop)]
 pub(crate) struct Draw {
@@ -50,8 +52,15 @@ impl Draw {
     }
 
     // A step of at most this size, either way.
-    pub(crate) fn step(&mut self, size: u32) -> i64 {
+    pub(crate) fn step(&mut self, size: u32) -> i64
+        ensures { unsigned_abs result ≤ size }
+    {
         let n = self.below(2 * u64::from(size) + 1);
         n as i64 - i64::from(size)
+    }
+
+    // A place at most this far from x.
+    pub(crate) fn near(&mut self, x: Place, size: u32) -> Place {
+        Place::new(x.at + self.step(size))
     }
 }

@@ -73,16 +73,16 @@ fn fold_motor(h: u64, motor: &Motor) -> u64 {
 fn block(seed: u64) -> Result<u64, Fault> {
     let mut draw = Draw { state: seed };
     let mut motor = Motor::fresh();
-    motor.set_gains(Gains::checked(draw_settings(&mut draw))?);
-    let mut x = draw.step(1_000_000);
-    motor.take(Event::Closing(x));
+    motor.set_gains(Gains::try_from(draw_settings(&mut draw))?);
+    let mut x = Place::new(draw.step(1_000_000));
+    motor.take(Event::Closing(x.at));
     let mut h = 0xcbf2_9ce4_8422_2325;
     for _ in 0..50 {
         if draw.below(4) == 0 && motor.is_closed() {
-            motor.send_to(Place::new(x.wrapping_add(draw.step(2_000))));
+            motor.send_to(draw.near(x, 2_000));
         }
-        x = x.wrapping_add(draw.step(1_000));
-        motor.step(Place::new(x));
+        x = draw.near(x, 1_000);
+        motor.step(x);
         h = fold_motor(h, &motor);
     }
     Ok(h)
