@@ -61,7 +61,7 @@ fn fold_motor(h: u64, motor: &Motor) -> u64 {
         memory.target.at,
         memory.last_target.at,
         memory.last_position.at,
-        memory.last_velocity.value,
+        memory.last_velocity.at,
         memory.integrator,
     ];
     let notch = motor.notch;

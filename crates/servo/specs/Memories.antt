@@ -15,7 +15,7 @@ memory_of a =
       target = a.target.at;
       last_target = a.last_target.at;
       last_position = a.last_position.at;
-      last_velocity = a.last_velocity.value;
+      last_velocity = a.last_velocity.at;
       integrator = a.integrator;
     }
 

@@ -33,25 +33,25 @@ impl Cycle<'_> {
 
     // The following error, clipped.
     pub(crate) fn error(&self) -> Rate
-        ensures { result.value ≡
+        ensures { result.at ≡
             error self.now.gains.now.settings (memory_of self.now.before) self.now.x.at }
     {
         Rate {
-            value: clip(self.before.target - self.x, self.gains.settings.error_limit),
+            at: clip(self.before.target - self.x, self.gains.settings.error_limit),
         }
     }
 
     // The commanded velocity.
     pub(crate) fn commanded(&self) -> Rate
-        ensures { result.value ≡ commanded (memory_of self.now.before) }
+        ensures { result.at ≡ commanded (memory_of self.now.before) }
     {
-        Rate::new(self.before.target - self.before.last_target)
+        Rate::clipped(self.before.target - self.before.last_target)
     }
 
     // The actual velocity.
     pub(crate) fn actual(&self) -> Rate
-        ensures { result.value ≡ actual (memory_of self.now.before) self.now.x.at }
+        ensures { result.at ≡ actual (memory_of self.now.before) self.now.x.at }
     {
-        Rate::new(self.x - self.before.last_position)
+        Rate::clipped(self.x - self.before.last_position)
     }
 }

@@ -14,7 +14,7 @@ impl Cycle<'_> {
         ensures { result ≡
             accumulated self.now.gains.now.settings (memory_of self.now.before) self.now.x.at }
     {
-        self.before.integrator + times(self.gains.settings.ki, self.error().value)
+        self.before.integrator + times(self.gains.settings.ki, self.error().at)
     }
 
     // Was the output at its limit, and would the integrator grow?

@@ -2,6 +2,7 @@
 #![tactic(auto)]
 
 mod arith;
+pub mod bounded;
 pub mod cause;
 mod cycle;
 pub mod gains;

@@ -1,27 +1,20 @@
 //! A position that an axis can have.
-ghost use Rattle.std.specs.Prelude.{◌≡◌, ◌<◌, ◌≤◌, MatchResult, unsigned_abs, ◌-ℤ◌};
+ghost use Rattle.std.specs.Prelude.{◌≡◌, ◌<◌, ◌≤◌, MatchResult, unsigned_abs};
 ghost use Rattle.servo.specs.Clip.{clipped};
 ghost use Rattle.servo.specs.Ranges.{out_of_range};
 
-use crate::arith::clip;
+use crate::bounded::Bounded;
 use faults::fault::{Fault, Part, Refusal};
-use std::ops::Sub;
 
 /// A position in sixteenths: the position limit, and room for the largest offset of sixteen layers.
-#[derive(Clone, Copy)]
-pub struct Place {
-    pub at: i64,
-    ghost near: { unsigned_abs at ≤ 1099512152048 },
-}
+pub type Place = Bounded<1_099_512_152_048>;
 
 impl Place {
     /// The position z, or the outermost one on its side.
     pub fn new(z: i64) -> Place
         ensures { result.at ≡ clipped 1099512152048 z }
     {
-        Place {
-            at: clip(z, 1_099_512_152_048),
-        }
+        Place::clipped(z)
     }
 
     // By name and no `TryFrom`, which would be no plainer: a place itself goes beyond the position limit.
@@ -36,16 +29,5 @@ impl Place {
         } else {
             Err(Fault::of(Part::Machine, Refusal::OutOfRange))
         }
-    }
-}
-
-/// How far one place lies from another.
-impl Sub for Place {
-    type Output = i64;
-
-    ghost sub_gives = { λ a b d. d ≡ a.at -ℤ b.at };
-
-    fn sub(self, rhs: Place) -> i64 {
-        self.at - rhs.at
     }
 }

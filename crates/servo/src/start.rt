@@ -22,7 +22,7 @@ impl Memory {
             target: x,
             last_target: x,
             last_position: x,
-            last_velocity: Rate { value: 0 },
+            last_velocity: Rate { at: 0 },
             integrator: 0,
         }
     }

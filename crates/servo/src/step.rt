@@ -20,10 +20,10 @@ impl Cycle<'_> {
     {
         let g = &self.gains.settings;
         let velocity = after.last_velocity;
-        128 * self.error().value
-            + times(g.kv, velocity.value)
+        128 * self.error().at
+            + times(g.kv, velocity.at)
             + times(g.ka, velocity - self.before.last_velocity)
-            - times(g.kd, self.actual().value)
+            - times(g.kd, self.actual().at)
             + shift_16(after.integrator)
     }
 

@@ -7,7 +7,7 @@ pub returns : goal.returns
 returns c =
     let s = c.args.self.now.before in
     let ki = c.args.self.now.gains.now.settings.ki in
-    let t : c.times.result ≡ ki *ℤ c.error.result.value = search rules in
+    let t : c.times.result ≡ ki *ℤ c.error.result.at = search rules in
     let f : SFits w64 s.integrator = search rules in
     let g : SFits w64 c.times.result = search rules in
     let h : SFits w64 (s.integrator +ℤ c.times.result) = omega (arith, ints, s.bounded, c.times.ensures.size) in
