@@ -8,7 +8,7 @@ use motor::motor::Motor;
 use source::source::Source;
 
 /// A source of positions, and a motor for each of its axes.
-// Contracts see it through `mill_of`; a model would say the same and change the words of every caller.
+// Contracts see it through `mill_of`. A model would be no plainer: it hides the source and the records, of which a cycle's clauses speak alone.
 #[derive(Drop)]
 pub struct Machine<S: Source> {
     pub(crate) source: S,

@@ -10,7 +10,7 @@ pub enum Cause {
 }
 
 impl Cause {
-    // No trait with the number of a refusal: the cast of an enum to its number cannot be written of a type parameter.
+    // By name: a `From` proves too and is no plainer, as its call would not say which number, and no trait can write the cast of a type parameter.
     /// The number by which a cause is known outside.
     pub fn number(self) -> u8
         ensures { result ≡ cause_number self }
