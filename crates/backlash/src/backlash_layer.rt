@@ -113,7 +113,8 @@ impl Correction for Slack {
 
 /// Puts a backlash on a source.
 pub fn put_backlash<S: Source>(below: S, backlash: Backlash) -> BacklashLayer<S>
-    ensures { standing result.correction.backlash result.correction.stand (S.Source.means result.below)
+    ensures { let laid = S.Source.means result.below in
+        standing result.correction.backlash result.correction.stand laid
         ≡ backlash_put backlash (S.Source.means below) }
 {
     let slack = Slack::new(backlash, &below);

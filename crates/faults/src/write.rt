@@ -1,20 +1,29 @@
 //! How a fault is printed.
-ghost use Rattle.std.specs.Prelude.{Some};
+ghost use Rattle.std.specs.Prelude.{◌≡◌, Some};
 ghost use Rattle.faults.specs.FaultTexts.{part_name, fault_text};
 
 use crate::fault::{Fault, Part};
 use std::fmt;
 
-impl fmt::Display for Part {
-    ghost output = { λ p. Some (part_name p) };
-
-    fn fmt<W: fmt::Write>(&self, f: &mut fmt::Formatter<W>) -> fmt::Result {
-        f.write_str(match self {
+impl Part {
+    /// The name of a part.
+    pub fn text(self) -> &'static str
+        ensures { result.now ≡ part_name self }
+    {
+        match self {
             Part::Text => "text",
             Part::Sheet => "sheet",
             Part::Source => "source",
             Part::Machine => "machine",
-        })
+        }
+    }
+}
+
+impl fmt::Display for Part {
+    ghost output = { λ p. Some (part_name p) };
+
+    fn fmt<W: fmt::Write>(&self, f: &mut fmt::Formatter<W>) -> fmt::Result {
+        f.write_str(self.text())
     }
 }
 

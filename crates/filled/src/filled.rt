@@ -1,5 +1,5 @@
 //! A list of at most `N` items, which takes no memory but its own.
-ghost use Rattle.std.specs.Prelude.{◌≡◌, ◌≤◌, length};
+ghost use Rattle.std.specs.Prelude.{◌≡◌, ◌≤◌, length, ⊤};
 
 use std::alloc::AllocError;
 
@@ -12,7 +12,12 @@ pub struct Filled<T, const N: usize> {
     ghost few: { filled ≤ N },
 }
 
+// By hand: a derive would ask of any `T` that its clone be equal, and `T: Copy` says it.
 impl<T: Copy, const N: usize> Clone for Filled<T, N> {
+    ghost is_clone = { λ x y. y ≡ x };
+
+    ghost is_infallible = { λ _. ⊤ };
+
     fn clone(&self) -> Result<Self, AllocError> {
         Ok(*self)
     }

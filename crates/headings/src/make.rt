@@ -50,6 +50,7 @@ impl TryFrom<ScrewNumbers> for Screw {
 }
 
 /// A plane's heading of numbers that are in their ranges.
+// Beside `try_from`, which is public and so has no answers of its own.
 fn checked_plane(numbers: PlaneNumbers) -> Result<Plane, Fault>
     ensures { PlaneMade numbers result }
 {

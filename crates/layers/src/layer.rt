@@ -27,7 +27,8 @@ impl<S: Source, C: Correction> Layer<S, C> {
     fn take_row(&mut self, row: &[u32]) -> Result<(), Fault>
         ensures answer { result ≡ row_answer (S.Source.means self.old.below []) row.now }
         ensures next { C.Correction.laid self.new.correction (S.Source.means self.new.below)
-            ≡ after (C.Correction.laid self.old.correction (S.Source.means self.old.below)) row.now }
+            ≡ after (C.Correction.laid self.old.correction (S.Source.means self.old.below))
+            row.now }
     {
         self.below.advance(row)?;
         self.correction.follow(&self.below);
@@ -38,7 +39,8 @@ impl<S: Source, C: Correction> Layer<S, C> {
 impl<S: Source, C: Correction> Source for Layer<S, C> {
     ghost means = { λ l. C.Correction.laid l.correction (S.Source.means l.below) };
 
-    ghost lawful = { λ l. C.Correction.keeps l.correction (S.Source.means l.below) (S.Source.lawful l.below) };
+    ghost lawful = { λ l.
+        C.Correction.keeps l.correction (S.Source.means l.below) (S.Source.lawful l.below) };
 
     fn axes(&self) -> usize {
         self.below.axes()

@@ -58,7 +58,8 @@ fn value_here<S: Source>(table: &Table, below: &S) -> i64
 // What a sheet adds at an axis of a source.
 fn amount<S: Source>(sheet: &Sheet, below: &S, axis: usize) -> i64
     ensures value { let seen = S.Source.means below.now [] in
-        result ≡ share (sheet_fit (held sheet.now) seen) (axis == sheet_target (held sheet.now)) (sheet_value (held sheet.now) seen) }
+        let on = (axis == sheet_target (held sheet.now)) in
+        result ≡ share (sheet_fit (held sheet.now) seen) on (sheet_value (held sheet.now) seen) }
     ensures near { Within 32767 result }
 {
     match fitted(sheet, below) {
@@ -88,7 +89,8 @@ impl Correction for Sheet {
 impl<S: Source> Layer<S, Sheet> {
     /// Puts a sheet on a source.
     pub fn put(below: S, sheet: &Sheet) -> Self
-        ensures { sheet_put result.correction (S.Source.means result.below) ≡ sheet_put sheet.now (S.Source.means below) }
+        ensures { sheet_put result.correction (S.Source.means result.below)
+            ≡ sheet_put sheet.now (S.Source.means below) }
     {
         Layer::new(below, *sheet)
     }

@@ -21,7 +21,8 @@ fn line_end(text: &[u8]) -> Option<usize>
 pub fn split_line(text: &[u8]) -> Option<(&[u8], &[u8])>
     ensures { MatchOption result
         (cut text.now ≡ record { lines = []; left = text.now })
-        (λ x. (cut text.now ≡ record { lines = x.0.now ∷ (cut x.1.now).lines; left = (cut x.1.now).left })
+        (λ x. (cut text.now
+        ≡ record { lines = x.0.now ∷ (cut x.1.now).lines; left = (cut x.1.now).left })
         × (length x.1.now < length text.now)) }
 {
     let end = line_end(text)?;

@@ -27,7 +27,7 @@ all_of [] h = tt
 all_of (z ∷ es) h = let p = and_parts (leb (nat_abs z) 32767) (in_range es) h in (leb-true (nat_abs z) 32767 p.0, all_of es p.1)
 
 pub table_valid : (t : HeldTable) → Valid (table_of t)
-table_valid t = record { heading = fits_of t.heading; complete = t.whole; range = all_of (items t.entries) t.narrow }
+table_valid t = record { heading = fits_of t.begun.heading; complete = t.whole; range = all_of (items t.begun.entries) t.begun.narrow }
 
 pub held_in : (o : Option HeldTable) (t : Table) → option_map table_of o ≡ Some t → Valid t
 held_in None t e = let w : ◌≡◌ {A = ℕ} 0 1 = cc in absurd (omega arith)

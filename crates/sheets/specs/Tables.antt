@@ -32,7 +32,7 @@ begun b = record { head = head_of b.heading; entries = items b.entries }
 
 -- what a sheet holds: nothing, or a complete table
 abbrev pub table_of : HeldTable → Table
-table_of t = record { head = head_of t.heading; entries = items t.entries }
+table_of t = begun t.begun
 
 abbrev pub held : Sheet → Option Table
 held s = option_map table_of s.table

@@ -7,6 +7,7 @@ ghost use Rattle.sheets.specs.Tables.{begun, held, fresh, push, entry_refusal, c
 
 use crate::begun::Begun;
 use crate::sheet::Sheet;
+use crate::table::Table;
 use faults::fault::{Fault, Part, Refusal};
 use headings::heading::Heading;
 
@@ -41,7 +42,8 @@ impl Definition<'_> {
     /// Takes one more entry, or says why not, and then nothing changes.
     pub fn enter(&mut self, value: i64) -> Result<(), Fault>
         ensures lends { self.new.sheet.ghost_name ≡ self.old.sheet.ghost_name }
-        ensures fault { result_err result ≡ option_map sheet_fault (entry_refusal (begun self.old.begun) value) }
+        ensures fault { result_err result
+            ≡ option_map sheet_fault (entry_refusal (begun self.old.begun) value) }
         ensures stays { held self.new.sheet.now ≡ held self.old.sheet.now }
         ensures after { begun self.new.begun
             ≡ (if is_ok result then push (begun self.old.begun) value else begun self.old.begun) }
@@ -59,7 +61,8 @@ impl Definition<'_> {
 
     /// Whether a closing would be accepted now.
     pub fn check(&self) -> Result<(), Fault>
-        ensures { result_err result ≡ option_map sheet_fault (close_refusal (begun self.now.begun)) }
+        ensures { result_err result
+            ≡ option_map sheet_fault (close_refusal (begun self.now.begun)) }
     {
         self.begun.check().map_err(refused)
     }
@@ -74,11 +77,13 @@ impl Definition<'_> {
 
     /// Ends the definition: the sheet holds the table if all entries are in, and is empty if not.
     pub fn close(self) -> Result<(), Fault>
-        ensures fault { result_err result ≡ option_map sheet_fault (close_refusal (begun self.entry.begun)) }
-        ensures after { held self.exit.0.now ≡ (if is_ok result then Some (begun self.entry.begun) else None) }
+        ensures fault { result_err result
+            ≡ option_map sheet_fault (close_refusal (begun self.entry.begun)) }
+        ensures after { held self.exit.0.now
+            ≡ (if is_ok result then Some (begun self.entry.begun) else None) }
     {
         let Definition { sheet, begun } = self;
-        let completed = begun.complete();
+        let completed = Table::try_from(begun);
         sheet.table = completed.ok();
         completed.map(|_| ()).map_err(refused)
     }

@@ -61,7 +61,8 @@ impl Begun {
     /// Takes one more entry, or says why not, and then nothing changes.
     pub(crate) fn enter(&mut self, value: i64) -> Result<(), Refusal>
         ensures refusal { result_err result ≡ entry_refusal (begun self.old) value }
-        ensures after { begun self.new ≡ (if is_ok result then push (begun self.old) value else begun self.old) }
+        ensures after { begun self.new
+            ≡ (if is_ok result then push (begun self.old) value else begun self.old) }
     {
         self.check_entry(value)?;
         self.store(value);
@@ -77,15 +78,16 @@ impl Begun {
         }
         Ok(())
     }
+}
 
-    /// The table, if all entries are in.
-    pub(crate) fn complete(self) -> Result<Table, Refusal>
-        ensures { result_map_both table_of (λ r. r) result ≡ closing (begun self) }
-    {
-        self.check()?;
-        Ok(Table {
-            heading: self.heading,
-            entries: self.entries,
-        })
+/// The table, if all entries are in.
+impl TryFrom<Begun> for Table {
+    type Error = Refusal;
+
+    ghost try_from_gives = { λ b r. result_map_both table_of (λ f. f) r ≡ closing (begun b) };
+
+    fn try_from(begun: Begun) -> Result<Table, Refusal> {
+        begun.check()?;
+        Ok(Table { begun })
     }
 }

@@ -34,7 +34,7 @@ impl Table {
     pub fn heading(&self) -> Heading
         ensures { head_of result ≡ (table_of self.now).head }
     {
-        self.heading
+        self.begun.heading
     }
 
     /// The table's entries.
@@ -42,6 +42,6 @@ impl Table {
         ensures value { result.now ≡ (table_of self.now).entries }
         ensures bound { length result.now ≤ 288 }
     {
-        self.entries.items()
+        self.begun.entries.items()
     }
 }

@@ -1,16 +1,13 @@
 //! A complete compensation table.
-ghost use Rattle.std.specs.Prelude.{◌≡◌, true, length};
+ghost use Rattle.std.specs.Prelude.{◌≡◌, length};
 ghost use Rattle.filled.specs.Items.{items};
-ghost use Rattle.headings.specs.Heads.{head_of, capacity, in_range};
+ghost use Rattle.headings.specs.Heads.{head_of, capacity};
 
-use filled::filled::Filled;
-use headings::heading::Heading;
+use crate::begun::Begun;
 
-/// A heading, and as many entries as it asks for, each in its range.
+/// What was begun, with as many entries as its heading asks for.
 #[derive(Clone, Copy)]
 pub struct Table {
-    pub(crate) heading: Heading,
-    pub(crate) entries: Filled<i16, 288>,
-    ghost whole: { length (items entries) ≡ capacity (head_of heading) },
-    ghost narrow: { in_range (items entries) ≡ true },
+    pub(crate) begun: Begun,
+    ghost whole: { length (items begun.entries) ≡ capacity (head_of begun.heading) },
 }

@@ -14,7 +14,9 @@ use source::source::Source;
 
 // Puts both on, the sheet first.
 fn put_both<S: Source>(bottom: S, sheet: &Sheet, backlash: Backlash) -> BacklashLayer<SheetLayer<S>>
-    ensures { standing result.correction.backlash result.correction.stand (sheet_put result.below.correction (S.Source.means result.below.below)) ≡ stacked (of_backlash backlash ∷ of_sheet sheet.now ∷ []) (S.Source.means bottom) }
+    ensures { let laid = sheet_put result.below.correction (S.Source.means result.below.below) in
+        standing result.correction.backlash result.correction.stand laid
+        ≡ stacked (of_backlash backlash ∷ of_sheet sheet.now ∷ []) (S.Source.means bottom) }
 {
     put_backlash(SheetLayer::put(bottom, sheet), backlash)
 }
@@ -25,7 +27,9 @@ pub fn sheet_and_backlash<S: Source>(
     sheet: &Sheet,
     backlash: Backlash,
 ) -> BacklashLayer<SheetLayer<S>>
-    ensures means { standing result.correction.backlash result.correction.stand (sheet_put result.below.correction (S.Source.means result.below.below)) ≡ stacked (of_backlash backlash ∷ of_sheet sheet.now ∷ []) (S.Source.means bottom) }
+    ensures means { let laid = sheet_put result.below.correction (S.Source.means result.below.below) in
+        standing result.correction.backlash result.correction.stand laid
+        ≡ stacked (of_backlash backlash ∷ of_sheet sheet.now ∷ []) (S.Source.means bottom) }
     ensures laws { StackLaws }
 {
     stacks_are_lawful();

@@ -7,7 +7,7 @@ use Rattle.lines.specs.Lines.{Cut, onto, cut, CLOSE}
 use Rattle.lines.proofs.Cuts.{not_same}
 use Rattle.faults.specs.declared.fault.Fault.{Fault}
 use Rattle.faults.specs.declared.fault.Refusal.{Refusal}
-use Rattle.faults.specs.declared.fault.Refusal.TheVariants.{WrongForm, Incomplete}
+use Rattle.faults.specs.declared.fault.Refusal.TheVariants.{WrongForm}
 use Rattle.faults.specs.Faults.{text_fault}
 use Rattle.headings.specs.Heads.{sheet_fault}
 use Rattle.sheets.specs.Tables.{Table, push, entry_refusal, close_refusal}

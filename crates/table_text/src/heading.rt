@@ -13,10 +13,12 @@ use headings::numbers::{PlaneNumbers, ScrewNumbers};
 use lines::field::field;
 
 /// The numbers of a line that has one after each of the leads, and nothing else.
+// A clause for the count: an array of references whose length is a parameter is not covered by the borrow checker.
 fn fields<const N: usize>(line: &[u8], leads: &[&[u8]]) -> Option<[i64; N]>
     requires { length leads.now ≡ N }
     ensures { result ≡ read_fields (map (λ l. l.now) leads.now) line.now }
 {
+    // By place: zipped with the row lent out, the loop would say of a borrow what it says of a list.
     let mut numbers = [0; N];
     let mut rest = line;
     for (i, lead) in leads.iter().enumerate() {
@@ -70,32 +72,14 @@ fn plane_numbers(line: &[u8]) -> Option<PlaneNumbers>
     })
 }
 
-/// A screw table's heading of the numbers in its line.
-fn screw_heading(numbers: ScrewNumbers) -> Result<Heading, Fault>
-    ensures { result_map_both head_of (λ f. f) result ≡ screw_read numbers }
-{
-    let screw = refused_in(Screw::try_from(numbers), 1)?;
-    Ok(Heading::Screw(screw))
-}
-
-/// A plane's heading of the numbers in its line.
-fn plane_heading(numbers: PlaneNumbers) -> Result<Heading, Fault>
-    ensures { result_map_both head_of (λ f. f) result ≡ plane_read numbers }
-{
-    let plane = refused_in(Plane::try_from(numbers), 1)?;
-    Ok(Heading::Plane(plane))
-}
-
 /// A table's heading line, without its end.
 #[tactic(auto, using(crate::proofs::Headings::heading_none))]
 pub(crate) fn read_heading(line: &[u8]) -> Result<Heading, Fault>
     ensures { result_map_both head_of (λ f. f) result ≡ read_heading line.now }
 {
     if let Some(numbers) = screw_numbers(line) {
-        return screw_heading(numbers);
+        return refused_in(Screw::try_from(numbers), 1).map(Heading::Screw);
     }
-    match plane_numbers(line) {
-        Some(numbers) => plane_heading(numbers),
-        None => Err(Fault::in_text(Refusal::WrongForm, 1)),
-    }
+    let numbers = plane_numbers(line).ok_or(Fault::in_text(Refusal::WrongForm, 1))?;
+    refused_in(Plane::try_from(numbers), 1).map(Heading::Plane)
 }

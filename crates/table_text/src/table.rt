@@ -24,6 +24,7 @@ fn fill(definition: &mut Definition<'_>, text: &[u8]) -> Result<(), Fault>
         × (close_refusal (begun definition.new.begun) ≡ None))
         (λ f. read_on (begun definition.old.begun) text.now ≡ Err f) }
 {
+    // Not a `for` over lines: what follows a CLOSE is looked at too, and so is what is left without a line's end.
     let mut rest = text;
     while let Some((line, after)) = split_line(rest) {
         let at = definition.filled() + 2;
@@ -48,9 +49,11 @@ fn fill(definition: &mut Definition<'_>, text: &[u8]) -> Result<(), Fault>
 /// Defines a sheet by the lines after the heading: all of them, or the sheet is left empty.
 fn read_body(sheet: &mut Sheet, heading: Heading, text: &[u8]) -> Result<(), Fault>
     ensures fault { result_err result
-        ≡ result_err (read_body (fresh (head_of heading)) 2 (cut text.now).lines (cut text.now).left) }
+        ≡ result_err (read_body (fresh (head_of heading)) 2 (cut text.now).lines
+        (cut text.now).left) }
     ensures after { held sheet.new
-        ≡ result_ok (read_body (fresh (head_of heading)) 2 (cut text.now).lines (cut text.now).left) }
+        ≡ result_ok (read_body (fresh (head_of heading)) 2 (cut text.now).lines
+        (cut text.now).left) }
 {
     let mut definition = sheet.open(heading);
     let filled = fill(&mut definition, text);

@@ -57,15 +57,15 @@ heading_length (Plane h) =
 -- the whole text of a table
 pub text_length : (t : HeldTable) → length (text_of (table_of t)) ≤ 2304
 text_length t =
-    let es = items t.entries in
-    let hl = heading_line (head_of t.heading) in
+    let es = items t.begun.entries in
+    let hl = heading_line (head_of t.begun.heading) in
     let rest = joined_lines (map signed_decimal es ++ CLOSE ∷ []) [] in
     omega (
       arith,
       length-append hl (10 ∷ rest),
       ap length (joined_append (map signed_decimal es) (CLOSE ∷ [])),
       length-append (joined_lines (map signed_decimal es) []) (CLOSE ++ 10 ∷ []),
-      heading_length t.heading,
-      rows_length es (all_of es t.narrow),
-      length-items-le t.entries,
+      heading_length t.begun.heading,
+      rows_length es (all_of es t.begun.narrow),
+      length-items-le t.begun.entries,
     )

@@ -6,6 +6,7 @@ ghost use Rattle.table_writing.specs.Pages.{clip};
 use filled::filled::Filled;
 use itoa::{Buffer, Integer};
 
+// Not a vector of fixed room: a push there answers whether there was any, and a page always has.
 /// A page of 2304 bytes, written from its front. Nothing of a table's text is let go.
 pub(crate) type Page = Filled<u8, 2304>;
 

@@ -16,7 +16,8 @@ use sheets::table::Table;
 
 /// A line for each entry.
 fn put_entries(page: &mut Page, entries: &[i16])
-    ensures { items page.new ≡ clip (items page.old ++ joined_lines (map signed_decimal entries.now) []) }
+    ensures { items page.new
+        ≡ clip (items page.old ++ joined_lines (map signed_decimal entries.now) []) }
 {
     for value in entries {
         put_line(page, *value);

@@ -12,7 +12,9 @@ use std::alloc::{AllocError, Global};
 /// Copies a text through a sheet into an output of its length, which then is the text.
 fn copy_whole(sheet: &mut Sheet, text: &[u8], out: &mut Vec<u8>) -> Result<(), Fault>
     requires { length out.old.items ≡ length text.now }
-    ensures copies { MatchResult result (λ _. out.new.items ≡ checked text.now) (λ f. fault_line f ≡ checked text.now) }
+    ensures copies { MatchResult result
+        (λ _. out.new.items ≡ checked text.now)
+        (λ f. fault_line f ≡ checked text.now) }
     ensures law { TextLaw }
 {
     copy_text(sheet, text, out)?;

@@ -12,7 +12,9 @@ use table_writing::write::write_text;
 
 /// Reads a text into a sheet: one that is accepted is the text of the table that the sheet then holds.
 fn read_table(sheet: &mut Sheet, text: &[u8]) -> Result<(), Fault>
-    ensures answer { MatchResult result (λ _. Same text.now (held sheet.new)) (λ f. reading text.now ≡ Err f) }
+    ensures answer { MatchResult result
+        (λ _. Same text.now (held sheet.new))
+        (λ f. reading text.now ≡ Err f) }
     ensures after { held sheet.new ≡ sheet_after (held sheet.old) text.now }
     ensures stays { opens text.now ≡ None → sheet.new ≡ sheet.old }
     ensures law { TextLaw }

@@ -12,7 +12,7 @@ fn weigh<const LIMIT: u64>(value: i64, weight: u32) -> i64
     ensures value { result ≡ value *ℤ pos weight }
     ensures size { unsigned_abs result ≤ LIMIT * weight }
 {
-    value * weight as i64
+    value * i64::from(weight)
 }
 
 /// A sum that there is room for.

@@ -29,10 +29,10 @@ pub(crate) fn locate(position: i64, span: u32, parts: u32) -> Place
     ensures left { result.left ≡ span - part parts span position }
     ensures less { result.gone < span }
 {
-    let whole = phase(position, span) as u64 * parts as u64;
-    let gone = (whole % span as u64) as u32;
+    let whole = u64::from(phase(position, span)) * u64::from(parts);
+    let gone = (whole % u64::from(span)) as u32;
     Place {
-        index: (whole / span as u64) as usize,
+        index: (whole / u64::from(span)) as usize,
         gone,
         left: span - gone,
     }

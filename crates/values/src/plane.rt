@@ -40,8 +40,10 @@ impl PlaneTable<'_> {
         requires weights { place.left + place.gone ≤ 2 ^ 22 }
         requires column { column ≤ self.now.plane.columns }
         ensures value { result
-            ≡ corner self.now.plane.columns self.now.entries.now place.index column *ℤ pos place.left
-            +ℤ corner self.now.plane.columns self.now.entries.now (place.index + 1) column *ℤ pos place.gone }
+            ≡ corner self.now.plane.columns self.now.entries.now place.index column
+            *ℤ pos place.left
+            +ℤ corner self.now.plane.columns self.now.entries.now (place.index + 1) column
+            *ℤ pos place.gone }
         ensures size { unsigned_abs result ≤ 2 ^ 37 }
     {
         let first = self.corner(place.index, column);

@@ -33,7 +33,8 @@ impl ScrewTable<'_> {
     /// The screw's value at a position, to the nearest whole number.
     pub(crate) fn value(&self, position: i64) -> i64
         ensures { result ≡ rounded
-            (screw_numerator self.now.screw.entries self.now.entries.now (16 * self.now.screw.span) position)
+            (screw_numerator self.now.screw.entries self.now.entries.now
+            (16 * self.now.screw.span) position)
             (pos (16 * self.now.screw.span)) }
     {
         let span = 16 * self.screw.span;

@@ -12,6 +12,7 @@ use sheets::sheet::Sheet;
 use sheets::table::Table;
 
 // The bound of a value stands in clauses and is no type: each use, a sum of plain numbers, would take it out again.
+// Beside `table_value`, which is public and so has no answers of its own: the bound needs two.
 fn read_value(table: &Table, row: i64, column: i64) -> i64
     ensures value { result ≡ value (table_of table.now) row column }
     ensures near { Within 32767 result }

@@ -8,5 +8,5 @@ returns c = record {
   gone = search rules;
   left = search rules;
   less = search rules;
-  inside = place_below c.phase.result c.args.parts c.args.span c.phase.ensures.below c.requires.parts;
+  inside = simp (c.from.ensures, c.from-2.ensures, c.from-4.ensures) (place_below c.phase.result c.args.parts c.args.span c.phase.ensures.below c.requires.parts);
 }
