@@ -41,12 +41,12 @@ fn encoders_stop_at_the_limit(rt: HostRuntime) {
     assert_eq!(rt; bank.set_up(&[0], 8_388_607), Ok(()));
     let mut reading = 0u32;
     for _ in 0..8_192 {
-        reading = reading.wrapping_add(8_388_607) % 16_777_216;
+        reading = (reading + 8_388_607) % 16_777_216;
         assert_eq!(rt; bank.advance(&[reading]), Ok(()));
     }
     assert_eq!(rt; bank.bare(0), Ok(1_099_511_496_704));
     assert_eq!(rt;
-        bank.advance(&[reading.wrapping_add(8_388_607) % 16_777_216]),
+        bank.advance(&[(reading + 8_388_607) % 16_777_216]),
         at(Refusal::PositionLimit, 0)
     );
     assert_eq!(rt; bank.bare(0), Ok(1_099_511_496_704));

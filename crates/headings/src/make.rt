@@ -13,10 +13,10 @@ fn ranged(value: i64, high: u32) -> Result<u32, Fault>
         (λ n. (within high value ≡ true) × (n ≡ unsigned_abs value) × (1 ≤ n) × (n ≤ high))
         (λ f. (within high value ≡ false) × (f ≡ sheet_fault OutOfRange)) }
 {
-    if !(1..=i64::from(high)).contains(&value) {
-        return Err(Fault::of(Part::Sheet, Refusal::OutOfRange));
+    match u32::try_from(value) {
+        Ok(number) if (1..=high).contains(&number) => Ok(number),
+        _ => Err(Fault::of(Part::Sheet, Refusal::OutOfRange)),
     }
-    Ok(value as u32)
 }
 
 impl TryFrom<i64> for MotorNumber {
