@@ -8,14 +8,14 @@ use Rattle.faults.specs.declared.fault.Fault.{Fault}
 use Rattle.faults.specs.declared.fault.Refusal.TheVariants.{WrongLength}
 use Rattle.rounding.specs.Bounds.{Within}
 use Rattle.rounding.proofs.RoundingLaws.{remainders}
-use Rattle.gauges.specs.Gauges.{turn, centred, travel, place, limited_within, standing_at, moved, reading_refusal}
+use Rattle.gauges.specs.Gauges.{turn, centred, travel, place, moved, reading_refusal}
 use Rattle.gauges.specs.declared.gauge.Axis.{Axis}
 use Rattle.gauges.specs.declared.gauge.Gauge.{Gauge}
 use Rattle.gauges.specs.declared.gauge.Gauge.TheVariants.{Encoder, Scale}
 use Rattle.banks.specs.Axes.{axis_at}
 use Rattle.banks.specs.Bank.{first_bad, row_bad, placed, length_refusal, unless, standing, bank_seen}
 use Rattle.banks.specs.BankLaws.{Shorter, TurnsShortest, TurnsOnly, Goes, AcceptedMoves, RefusedStays, BankLaws}
-use Rattle.banks.specs.BankProofs.{some_none, refused_none, reading_good, all_good, overlaid_at}
+use Rattle.banks.specs.BankProofs.{some_none, refused_none, reading_good, all_good, overlaid_at, standing_near}
 
 -- the centre of a residue: itself, or a turn less
 centred_is : (P : ℤ → Type 0) (m : ℤ) → (m <ℤ pos 8388608 → P m) → (pos 8388608 ≤ℤ m → P (m -ℤ pos 16777216)) → P (centred m)
@@ -47,7 +47,6 @@ goes Encoder most a x h = (refl, h)
 goes Scale most a x h = (refl, h)
 
 accepted : AcceptedMoves
-unfolding standing_at
 accepted g n most held row few e a lt =
     let x = get_or row a 0 in
     let q = refused_none (length_refusal n row) (first_bad (row_bad g most held) 0 row) e in
@@ -56,11 +55,9 @@ accepted g n most held row few e a lt =
     let good : reading_refusal g most (axis_at held a) (get_or row a 0) ≡ None = rw same at (all_good (row_bad g most held) 0 row a q.1 (omega arith)) in
     let to : axis_at (standing g n most held (row ∷ [])) a ≡ moved g (axis_at held a) (get_or row a 0) =
     ap (λ (o : Option Fault). axis_at (unless o held (placed g held row)) a) e ∙ overlaid_at (moved g) held row a (omega arith) (omega arith) in
-    let kept = reading_good g most (axis_at held a) (get_or row a 0) good in
     record {
-      goes = subst (Goes g most (axis_at held a).last (axis_at held a).position (get_or row a 0))
-          (sym (ap (λ (b : Axis). b.position) to ∙ limited_within (place g (axis_at held a) (get_or row a 0)) kept.2))
-          (goes g most (axis_at held a) (get_or row a 0) kept.1);
+      goes = subst (Goes g most (axis_at held a).last (axis_at held a).position (get_or row a 0)) (ap (λ (b : Axis). b.position) (sym to))
+          (goes g most (axis_at held a) (get_or row a 0) (reading_good g most (axis_at held a) (get_or row a 0) good).1);
       reads = ap (λ (b : Axis). b.last) to;
     }
 
@@ -68,4 +65,4 @@ refused : RefusedStays
 refused g n most held row f e rs = ap (λ (o : Option Fault). bank_seen g n most (standing g n most (unless o held (placed g held row)) rs)) e
 
 pub lawful : BankLaws
-lawful = record { shortest = shortest; only = only; accepted = accepted; refused = refused; near = λ g n most held rs a. (axis_at (standing g n most held rs) a).near }
+lawful = record { shortest = shortest; only = only; accepted = accepted; refused = refused; near = λ g n most held near rs a. standing_near g n most held rs near a }

@@ -1,19 +1,14 @@
 -- A row, walked axis by axis.
 use Rattle.std.specs.Prelude.{◌≡◌, ℕ, zero, suc, ◌+◌, ◌<◌, List, [], ◌∷◌, ◌++◌, length, take, drop, Some, None, Ok, Err, Option, Result, slice_index_or, refl}
 use Rattle.std.proofs.Common.{sym, ◌∙◌, ap, arith}
-use Rattle.std.proofs.lemmas.List.{at_drop_more, get_or_default}
+use Rattle.std.proofs.lemmas.List.{at_drop_more}
 use Rattle.faults.specs.declared.fault.Fault.{Fault}
 use Rattle.faults.specs.declared.fault.Refusal.{Refusal}
-use Rattle.gauges.specs.Gauges.{outcome, moved, reading_refusal}
+use Rattle.gauges.specs.Gauges.{outcome}
 use Rattle.gauges.specs.declared.gauge.Axis.{Axis}
-use Rattle.gauges.specs.declared.gauge.Gauge.{Gauge}
-use Rattle.banks.specs.Axes.{axis_at, blank, overlaid}
-use Rattle.banks.specs.Bank.{refused_at, first_bad, row_bad, named}
-
--- what the gauge says of an axis that stands in the list
-pub said_at : (g : Gauge) (most : ℕ) (held : List Axis) (i x : ℕ) (a : Axis) (r : Result Axis Refusal) → i < length held → a ≡ slice_index_or held i a
-    → r ≡ outcome (reading_refusal g most a x) (moved g a x) → r ≡ outcome (row_bad g most held i x) (moved g (axis_at held i) x)
-said_at g most held i x a r lt is e = e ∙ ap (λ (b : Axis). outcome (reading_refusal g most b x) (moved g b x)) (is ∙ get_or_default held i a blank lt)
+use Rattle.rounding.specs.Bounds.{Within}
+use Rattle.banks.specs.Axes.{axis_at, AllNear, overlaid}
+use Rattle.banks.specs.Bank.{refused_at, first_bad, named}
 
 pub named_ok : (i : ℕ) (o : Option Refusal) (a b : Axis) → named i (outcome o a) ≡ Ok b → (o ≡ None) × (a ≡ b)
 named_ok i None a b e = (refl, (cc))
@@ -44,3 +39,10 @@ overlaid_more h held [] i d lx lh = absurd (omega arith)
 overlaid_more h [] (x ∷ xs) i d lx lh = absurd (omega arith)
 overlaid_more h (a ∷ held) (x ∷ xs) zero d lx lh = refl
 overlaid_more h (a ∷ held) (x ∷ xs) (suc i) d lx lh = ap (λ (zs : List Axis). h a x ∷ zs) (overlaid_more h held xs i d (omega arith) (omega arith))
+
+-- one near axis more
+pub pushed_near : (held : List Axis) (a : Axis) → Within 1099511627776 a.position → AllNear held → AllNear (held ++ a ∷ [])
+pushed_near [] a h near zero = h
+pushed_near [] a h near (suc j) = near j
+pushed_near (b ∷ held) a h near zero = near zero
+pushed_near (b ∷ held) a h near (suc j) = pushed_near held a h (λ k. near (suc k)) j

@@ -7,7 +7,7 @@ use Rattle.gauges.specs.Gauges.{turn, signed}
 use Rattle.gauges.specs.declared.gauge.Axis.{Axis}
 use Rattle.gauges.specs.declared.gauge.Gauge.{Gauge}
 use Rattle.gauges.specs.declared.gauge.Gauge.TheVariants.{Encoder, Scale}
-use Rattle.banks.specs.Axes.{axis_at}
+use Rattle.banks.specs.Axes.{axis_at, AllNear}
 use Rattle.banks.specs.Bank.{bank_means, standing}
 
 -- m leads from one reading of a counter of 24 bits to another, by the shorter way
@@ -49,7 +49,7 @@ RefusedStays =
 
 -- no row takes an axis beyond the position limit
 abbrev pub StaysNear : Type 0
-StaysNear = (g : Gauge) (n most : ℕ) (held : List Axis) (rs : Rows) (a : ℕ) → Within 1099511627776 ((bank_means g n most held rs).bare a)
+StaysNear = (g : Gauge) (n most : ℕ) (held : List Axis) → AllNear held → (rs : Rows) (a : ℕ) → Within 1099511627776 ((bank_means g n most held rs).bare a)
 
 pub record BankLaws : Type 0 where
   pub shortest : TurnsShortest

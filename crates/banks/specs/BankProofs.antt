@@ -1,17 +1,17 @@
 -- A bank is a lawful source.
-use Rattle.std.specs.Prelude.{◌≡◌, ℕ, zero, suc, ◌+◌, ◌<◌, ◌≤◌, Bool, true, false, cond, List, [], ◌∷◌, length, ℤ, Some, None, Option, slice_index, refl}
-use Rattle.std.proofs.Common.{arith}
+use Rattle.std.specs.Prelude.{◌≡◌, ℕ, zero, suc, ◌+◌, ◌<◌, ◌≤◌, Bool, true, false, cond, List, [], ◌∷◌, length, ℤ, pos, negsuc, Some, None, Option, slice_index, refl}
+use Rattle.std.proofs.Common.{arith, ltb-false}
 use Rattle.std.proofs.lemmas.Int.{ints}
 use Rattle.faults.specs.declared.fault.Fault.{Fault}
 use Rattle.faults.specs.declared.fault.Refusal.{Refusal}
 use Rattle.faults.specs.declared.fault.Refusal.TheVariants.{ReadingTooWide, JumpTooLarge, PositionLimit}
-use Rattle.source.specs.Meaning.{Lawful}
-use Rattle.gauges.specs.Gauges.{place, travel, too_wide, exceeds, reading_refusal}
+use Rattle.source.specs.Meaning.{Lawful, Rows}
+use Rattle.gauges.specs.Gauges.{place, travel, moved, too_wide, exceeds, reading_refusal}
 use Rattle.gauges.specs.declared.gauge.Axis.{Axis}
 use Rattle.gauges.specs.declared.gauge.Gauge.{Gauge}
 use Rattle.rounding.specs.Bounds.{Within}
-use Rattle.banks.specs.Axes.{axis_at, overlaid}
-use Rattle.banks.specs.Bank.{refused, refused_at, first_bad, standing, bank_means}
+use Rattle.banks.specs.Axes.{axis_at, AllNear, overlaid}
+use Rattle.banks.specs.Bank.{refused, refused_at, first_bad, row_bad, placed, length_refusal, bank_refusal, unless, standing, bank_means}
 
 pub some_none : {X : Type 0} {A : Type 0} (x : X) → ◌≡◌ {A = Option X} (Some x) None → A
 some_none x e = cc
@@ -56,12 +56,40 @@ overlaid_at h [] (x ∷ xs) i lx lh = absurd (omega arith)
 overlaid_at h (a ∷ held) (x ∷ xs) zero lx lh = refl
 overlaid_at h (a ∷ held) (x ∷ xs) (suc i) lx lh = overlaid_at h held xs i (omega arith) (omega arith)
 
-pub bank_lawful : (g : Gauge) (n most : ℕ) (held : List Axis) → n ≤ 8 → Lawful (bank_means g n most held)
-bank_lawful g n most held few = record {
+-- axes are near where each that has a reading becomes a near one
+overlaid_near : (h : Axis → ℕ → Axis) (held : List Axis) (xs : List ℕ)
+    → ((i : ℕ) → i < length xs → Within 1099511627776 (h (axis_at held i) (slice_index xs i)).position)
+    → AllNear held → AllNear (overlaid h held xs)
+overlaid_near h held [] made near i = near i
+overlaid_near h [] (x ∷ xs) made near i = near i
+overlaid_near h (a ∷ held) (x ∷ xs) made near zero = made zero (omega arith)
+overlaid_near h (a ∷ held) (x ∷ xs) made near (suc i) =
+    overlaid_near h held xs (λ j lt. made (suc j) (omega arith)) (λ j. near (suc j)) i
+
+pub placed_near : (g : Gauge) (most : ℕ) (held : List Axis) (row : List ℕ) → first_bad (row_bad g most held) 0 row ≡ None → AllNear held → AllNear (placed g held row)
+placed_near g most held row e near =
+    overlaid_near (moved g) held row
+    (λ i lt. let same : 0 + i ≡ i = omega arith in
+    (reading_good g most (axis_at held i) (slice_index row i) (rw same at (all_good (row_bad g most held) 0 row i e lt))).2)
+    near
+
+unless_near : (g : Gauge) (n most : ℕ) (held : List Axis) (row : List ℕ) (o : Option Fault) → bank_refusal g n most held row ≡ o → AllNear held → AllNear (unless o held (placed g held row))
+unless_near g n most held row None e near =
+    placed_near g most held row (refused_none (length_refusal n row) (first_bad (row_bad g most held) 0 row) e).1 near
+unless_near g n most held row (Some f) e near = near
+
+pub standing_near : (g : Gauge) (n most : ℕ) (held : List Axis) (rs : Rows) → AllNear held → AllNear (standing g n most held rs)
+standing_near g n most held [] near = near
+standing_near g n most held (r ∷ rs) near =
+    standing_near g n most (unless (bank_refusal g n most held r) held (placed g held r)) rs
+    (unless_near g n most held r (bank_refusal g n most held r) refl near)
+
+pub bank_lawful : (g : Gauge) (n most : ℕ) (held : List Axis) → n ≤ 8 → AllNear held → Lawful (bank_means g n most held)
+bank_lawful g n most held few near = record {
   axes = λ rs. refl;
   depth = λ rs. refl;
   few = few;
   shallow = omega arith;
-  bare = λ rs a. (axis_at (standing g n most held rs) a).near;
+  bare = λ rs a. standing_near g n most held rs near a;
   offset = λ rs a. (omega (arith, ints), omega (arith, ints));
 }

@@ -7,7 +7,6 @@ use Rattle.faults.specs.declared.fault.Part.TheVariants.{Source}
 use Rattle.gauges.specs.declared.gauge.Axis.{Axis}
 use Rattle.gauges.specs.declared.gauge.Gauge.{Gauge}
 use Rattle.gauges.specs.declared.gauge.Gauge.TheVariants.{Encoder, Scale}
-use Rattle.gauges.specs.Gauges.{standing_at}
 use Rattle.banks.specs.Bank.{bank_refusal, placed, unless}
 
 pub record Case : Type 0 where
@@ -30,7 +29,7 @@ abbrev pub expected : Case → Outcome
 expected c = (c.refusal, c.after)
 
 abbrev at : ℕ → ℤ → Axis
-at = standing_at
+at x p = record { last = x; position = p }
 
 abbrev pub cases : List Case
 cases =

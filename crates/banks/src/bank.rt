@@ -1,5 +1,6 @@
 //! A bank's record.
 ghost use Rattle.std.specs.Prelude.{◌≤◌, length};
+ghost use Rattle.banks.specs.Axes.{AllNear};
 
 use arrayvec::ArrayVec;
 use gauges::gauge::{Axis, Gauge};
@@ -16,4 +17,5 @@ pub struct Bank {
     pub(crate) axes: ArrayVec<Axis, MOST>,
     // The vector's capacity, once more: the law of sources sees its elements alone.
     ghost few: { length axes.items ≤ 8 },
+    ghost near: { AllNear axes.items },
 }

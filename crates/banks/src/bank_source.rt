@@ -39,7 +39,7 @@ impl Source for Bank {
     ghost means = { λ b. bank_means b.gauge (length b.axes.items) b.jump b.axes.items };
 
     ghost lawful = { λ s.
-        bank_lawful s.gauge (length s.axes.items) s.jump s.axes.items s.few };
+        bank_lawful s.gauge (length s.axes.items) s.jump s.axes.items s.few s.near };
 
     fn axes(&self) -> usize {
         self.axes.len()

@@ -1,6 +1,7 @@
 //! A row of readings, walked axis by axis: the axes after it, or its first bad reading.
 ghost use Rattle.std.specs.Prelude.{◌≡◌, ◌≤◌, length, IfOk};
 ghost use Rattle.gauges.specs.Gauges.{outcome};
+ghost use Rattle.banks.specs.Axes.{AllNear};
 ghost use Rattle.banks.specs.Bank.{named, first_bad, start_bad, row_bad, started, placed};
 
 use crate::bank::MOST;
@@ -18,8 +19,9 @@ fn name(said: Result<Axis, Refusal>, axis: usize) -> Result<Axis, Fault>
 // The axes at their first readings, or the first bad reading.
 pub(crate) fn start_axes(gauge: Gauge, readings: &[u32]) -> Result<ArrayVec<Axis, MOST>, Fault>
     requires { length readings.now ≤ 8 }
-    ensures { let bad = first_bad (start_bad gauge) 0 readings.now in
+    ensures value { let bad = first_bad (start_bad gauge) 0 readings.now in
         result ≡ outcome bad (record { items = started gauge readings.now }) }
+    ensures near { IfOk result (λ axes. AllNear axes.items) }
 {
     let mut axes = ArrayVec::new();
     for (axis, reading) in readings.iter().enumerate() {
@@ -42,6 +44,7 @@ pub(crate) fn move_axes(
     ensures value { let bad = first_bad (row_bad gauge jump held.now) 0 row.now in
         result ≡ outcome bad (record { items = placed gauge held.now row.now }) }
     ensures count { IfOk result (λ axes. length axes.items ≡ length held.now) }
+    ensures near { IfOk result (λ axes. AllNear axes.items) }
 {
     let mut axes = ArrayVec::new();
     for (axis, reading) in row.iter().enumerate() {

@@ -1,8 +1,5 @@
 -- What one reading does to its axis, and which readings are refused.
-use Rattle.std.specs.Prelude.{◌≡◌, ℕ, Bool, false, cond, ℤ, pos, ◌+ℤ◌, ◌-ℤ◌, ◌*ℤ◌, Some, None, Ok, Err, Option, Result, int_lt, nat_le, nat_lt, neg_ℤ, unsigned_abs}
-use Rattle.std.proofs.Common.{arith}
-use Rattle.std.proofs.lemmas.Int.{ints}
-use Rattle.rounding.specs.Bounds.{Within}
+use Rattle.std.specs.Prelude.{ℕ, Bool, false, cond, ℤ, pos, ◌+ℤ◌, ◌-ℤ◌, ◌*ℤ◌, Some, None, Ok, Err, Option, Result, int_lt, nat_le, nat_lt, unsigned_abs}
 use Rattle.std.specs.Int.{int_rem_euclid}
 use Rattle.faults.specs.declared.fault.Refusal.{Refusal}
 use Rattle.faults.specs.declared.fault.Refusal.TheVariants.{OutOfRange, ReadingTooWide, JumpTooLarge, PositionLimit}
@@ -32,23 +29,8 @@ abbrev pub place : Gauge → Axis → ℕ → ℤ
 place Encoder a x = a.position +ℤ pos 16 *ℤ turn x a.last
 place Scale a x = signed x
 
--- the position z, or the limit that it is beyond
-abbrev pub limited : ℤ → ℤ
-limited z = cond (int_lt z (neg_ℤ (pos 1099511627776))) (neg_ℤ (pos 1099511627776)) (cond (int_lt (pos 1099511627776) z) (pos 1099511627776) z)
-
-pub limited_within : (z : ℤ) → Within 1099511627776 z → limited z ≡ z
-limited_within z h = grind (arith, ints)
-
-pub limited_near : (z : ℤ) → Within 1099511627776 (limited z)
-limited_near z = grind (arith, ints)
-
--- an axis last read as x, at z or at the limit
-unfoldable pub standing_at : ℕ → ℤ → Axis
-standing_at x z = record { last = x; position = limited z; near = limited_near z }
-
--- a reading that would put the axis beyond the limit is refused
 abbrev pub moved : Gauge → Axis → ℕ → Axis
-moved g a x = standing_at x (place g a x)
+moved g a x = record { last = x; position = place g a x }
 
 -- where an axis stands at its first reading
 abbrev pub first_place : Gauge → ℕ → ℤ
@@ -56,7 +38,7 @@ first_place Encoder x = pos 0
 first_place Scale x = signed x
 
 abbrev pub start : Gauge → ℕ → Axis
-start g x = standing_at x (first_place g x)
+start g x = record { last = x; position = first_place g x }
 
 -- more than 24 bits of an encoder
 abbrev pub too_wide : Gauge → ℕ → Bool

@@ -23,17 +23,19 @@ impl Gauge {
 
     /// The axis after another reading, or why that is refused: by its width, its jump, or where it puts the axis.
     pub fn read(self, jump: u32, axis: Axis, reading: u32) -> Result<Axis, Refusal>
-        ensures { result
+        ensures value { result
             ≡ outcome (reading_refusal self jump axis reading) (moved self axis reading) }
+        ensures near { IfOk result (λ axis. Within 1099511627776 axis.position) }
     {
         self.check_width(reading)?;
         if self.travel(axis, reading).unsigned_abs() > u128::from(jump) {
             return Err(Refusal::JumpTooLarge);
         }
         match i64::try_from(self.place(axis, reading)) {
-            Ok(position) if position.unsigned_abs() <= POSITION_LIMIT => {
-                Ok(Axis::at(reading, position))
-            }
+            Ok(position) if position.unsigned_abs() <= POSITION_LIMIT => Ok(Axis {
+                last: reading,
+                position,
+            }),
             _ => Err(Refusal::PositionLimit),
         }
     }

@@ -19,10 +19,14 @@ impl Gauge {
 
     /// The axis at its first reading, or why that is refused.
     pub fn start(self, reading: u32) -> Result<Axis, Refusal>
-        ensures { result ≡ outcome (width_refusal self reading) (start self reading) }
+        ensures value { result ≡ outcome (width_refusal self reading) (start self reading) }
+        ensures near { IfOk result (λ axis. Within 1099511627776 axis.position) }
     {
         self.check_width(reading)?;
-        Ok(Axis::at(reading, self.first_place(reading)))
+        Ok(Axis {
+            last: reading,
+            position: self.first_place(reading),
+        })
     }
 
     // The largest jump limit, in the gauge's own unit.

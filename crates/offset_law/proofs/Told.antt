@@ -1,14 +1,16 @@
 -- Each reported offset is the table's value at the reported position.
-use Rattle.std.proofs.Common.{◌≡◌, ℕ, ◌+◌, ◌≤◌, Bool, true, cond, eqb, ltb, List, [], ◌∷◌, take, drop, ℤ, pos, ◌+ℤ◌, Some, None, Ok, Err, Option, Result, sym, refl, ap, ◌∙◌, subst, arith, lit≤}
+use Rattle.std.proofs.Common.{◌≡◌, ℕ, zero, suc, ◌+◌, ◌≤◌, Bool, true, cond, eqb, ltb, List, [], ◌∷◌, take, drop, ℤ, pos, ◌+ℤ◌, Some, None, Ok, Err, Option, Result, sym, refl, ap, ◌∙◌, subst, arith, lit≤}
 use Rattle.std.specs.List.{AllByRecursion}
 use Rattle.std.specs.Result.{result_map_both}
 use Rattle.std.proofs.lemmas.Int.{ints}
 use Rattle.std.proofs.lemmas.Bool.{ltb-true, eq-eqb}
+use Rattle.banks.specs.Axes.{AllNear}
 use Rattle.banks.specs.Bank.{bank_means, set_up_refusal, started}
 use Rattle.banks.specs.BankProofs.{bank_lawful}
 use Rattle.faults.specs.Faults.{at_line}
 use Rattle.faults.specs.declared.fault.Fault.{Fault}
 use Rattle.faults.specs.declared.fault.Refusal.{Refusal}
+use Rattle.gauges.specs.declared.gauge.Axis.{Axis}
 use Rattle.gauges.specs.declared.gauge.Gauge.TheVariants.{Encoder}
 use Rattle.headings.specs.Heads.{row_axis, column_axis, target_axis}
 use Rattle.layers.specs.Laid.{share}
@@ -123,11 +125,16 @@ told_laid : (o : Option Fault) (t : Table) (m : Meaning) (k : ℕ) (rs : List (�
 told_laid (Some f) t m k rs e v h = (tt, tt)
 told_laid None t m k rs e v h = let on : Standing t m = record { single = h; fit = e } in (told_seen t m k v on, told_said t m rs v on)
 
+none_far : (held : List Axis) → AllByRecursion (λ a. a.position ≡ pos 0) held → AllNear held
+none_far [] h i = (omega (arith, ints), omega (arith, ints))
+none_far (a ∷ held) h zero = subst (Within 1099511627776) (sym h.0) (omega (arith, ints), omega (arith, ints))
+none_far (a ∷ held) h (suc i) = none_far held h.1 i
+
 bank_single : (x : ℕ) → Single (bank_means Encoder 1 8388607 (started Encoder (x ∷ [])))
 bank_single x = record {
   axes = λ rs. refl;
   offset = λ rs. refl;
-  lawful = bank_lawful Encoder 1 8388607 (started Encoder (x ∷ [])) (lit≤ tt);
+  lawful = bank_lawful Encoder 1 8388607 (started Encoder (x ∷ [])) (lit≤ tt) (none_far (started Encoder (x ∷ [])) (refl, tt));
 }
 
 -- the bank that a line sets up, or not

@@ -1,4 +1,5 @@
 use Rattle.std.proofs.Common.{◌≡◌, length, take, drop}
+use Rattle.banks.specs.Axes.{AllNear}
 use Rattle.banks.specs.Bank.{first_bad, row_bad, placed}
 use Rattle.banks.proofs.walk.move_axes.Given as goal
 
@@ -10,4 +11,5 @@ invariant-loop-axis l =
       count : length l.axes.items ≡ l.axis;
       placed : l.axes.items ≡ placed l.gauge (take l.axis l.held) (take l.axis l.row);
       good : first_bad bad l.axis (drop l.axis l.row) ≡ first_bad bad 0 l.row;
+      near : AllNear l.axes.items;
     }
