@@ -7,14 +7,14 @@ use crate::gauge::{Axis, Gauge};
 // How many counts an encoder has, from 0 to one less than this.
 pub(crate) const TURN: u32 = 16_777_216;
 
-const HALF: i64 = TURN as i64 / 2;
+const HALF: u32 = TURN / 2;
 
 // The shorter way round from the last reading to this one, in counts.
 fn turned(reading: u32, last: u32) -> i32
     ensures { result ≡ turn reading last }
 {
     let counts = (i64::from(reading) - i64::from(last)).rem_euclid(i64::from(TURN));
-    if counts < HALF {
+    if counts < i64::from(HALF) {
         counts as i32
     } else {
         (counts - i64::from(TURN)) as i32

@@ -7,6 +7,7 @@ pub enum Gauge {
     Scale,
 }
 
+// The bound of the position stands in contracts and is no invariant, which was tried: the rule of a move would have to cut off what is refused.
 /// One axis: its last reading, and its bare position in sixteenths of a count.
 #[derive(Clone, Copy, Default)]
 pub struct Axis {
