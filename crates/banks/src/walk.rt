@@ -32,7 +32,8 @@ pub(crate) fn start_axes(gauge: Gauge, readings: &[u32]) -> Result<ArrayVec<Axis
 
 // The axes after a row of their number, or its first bad reading: nothing is stored here, so that a
 // refused row moves none.
-// Not one walk over a closure that reads: its contract would have to say of each call what it gave.
+// Not one walk over a closure that reads: a clause on what the closure gives at each number is longer than the three lines spared.
+// By index, and not zipped: the number of the first bad axis is the loop's own.
 pub(crate) fn move_axes(
     gauge: Gauge,
     jump: u32,
