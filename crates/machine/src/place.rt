@@ -12,7 +12,7 @@ use servo::place::Place;
 use source::source::Source;
 
 // A position within the reach of an axis and its layers.
-pub(crate) fn standing(z: i64) -> Place
+fn standing(z: i64) -> Place
     requires { Within 1099512152048 z }
     ensures { result.at ≡ z }
 {
