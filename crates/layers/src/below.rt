@@ -27,7 +27,7 @@ pub fn has_room<S: Source>(below: &S, part: Part) -> Result<(), Fault>
     Ok(())
 }
 
-// The bound of a position stands in clauses and is no type: a source answers plain numbers, and each use is a sum of them.
+// The bounds of a position and of an offset stand in clauses and are no types: a source answers plain numbers, and each use is a sum of them.
 /// Where an axis is, and 0 for one that is not there.
 pub fn position<S: Source>(below: &S, axis: usize) -> i64
     ensures value { result ≡ position_seen (S.Source.means below.now []) axis }

@@ -18,6 +18,7 @@ impl Iterator for Readings<'_> {
     ghost use Rattle.std.specs.Iterator.{YieldsFirst, item_count};
     ghost use Rattle.offset_report.specs.Inputs.{readings_left};
 
+    // A pair, as `enumerate` gives one: each user of a struct would take it apart at once.
     type Item = (usize, Result<u32, Refusal>);
 
     ghost next_gives = { YieldsFirst readings_left };

@@ -9,6 +9,7 @@ use text_law::check::check_table;
 /// How much of the standard input is read: more than any table's text.
 const INPUT_LIMIT: usize = 65_536;
 
+// Beside the main of `offsets`: one that took the call as a closure would be no shorter.
 fn main(rt: HostRuntime) -> io::Result<()> {
     let input = read_input(&rt, INPUT_LIMIT)?;
     let output = check_table(rt.alloc(), &input)?;
