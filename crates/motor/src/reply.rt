@@ -50,5 +50,7 @@ pub fn reply(gains: &mut GainSettings, e0: i64) -> Result<i32, Fault>
 {
     Gains::try_from(*gains)?;
     let without = WithoutKi::new(gains);
-    measure(without.gains, e0)
+    // An early way out inside the guard, which gives ki back there too.
+    let output = measure(without.gains, e0)?;
+    Ok(output)
 }
