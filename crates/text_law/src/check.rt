@@ -30,6 +30,12 @@ pub fn check_table(heap: Global, input: &[u8]) -> Result<Vec<u8>, AllocError>
     let mut out = vec![in heap; 0; input.len()]?;
     match copy_whole(&mut sheet, input, &mut out) {
         Ok(()) => Ok(out),
-        Err(fault) => Ok(format!(in heap; "{fault}\n")?.into_bytes()),
+        Err(fault) => {
+            // The line takes the memory of the text that was not copied.
+            out.clear();
+            let mut line = String::from_utf8(out).unwrap();
+            writeln!(line, "{fault}")?;
+            Ok(line.into_bytes())
+        }
     }
 }
