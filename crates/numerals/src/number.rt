@@ -1,28 +1,37 @@
 //! A number read from a text: no plus sign, no leading zero, no minus before 0.
 ghost use Rattle.std.specs.Prelude.{◌≡◌, ◌≤◌, true, false, length, IfSome, MatchOption};
-ghost use Rattle.std.specs.Char.{is_ascii_digit};
-ghost use Rattle.std.specs.List.{take_while};
 ghost use Rattle.std.specs.Option.{option_map};
 ghost use Rattle.numerals.specs.Numbers.{front, worth, plain, read_number, read_whole, read_unsigned};
 
 /// A size that no range reaches, and at which digits stop counting.
 const MOST: u64 = 10_000_000_000;
 
-/// How many digits a text begins with.
-fn width(text: &[u8]) -> usize
-    ensures value { result ≡ length (take_while is_ascii_digit text.now) }
-    ensures within { result ≤ length text.now }
-{
-    text.iter().take_while(|c| c.is_ascii_digit()).count()
+/// The number that digits write, and how many digits there are.
+#[derive(Clone, Copy)]
+struct Run {
+    size: u64,
+    width: usize,
 }
 
+// In one pass, and not by `take_while` and a sum over what it took: every entry and every reading comes through here.
 /// The digits that a text begins with.
-#[tactic(auto, using(crate::proofs::Fronts::front_taken))]
-fn digits(text: &[u8]) -> &[u8]
-    ensures value { result.now ≡ front text.now }
-    ensures within { length result.now ≤ length text.now }
+#[tactic(auto, using(crate::proofs::Fronts::front_more, crate::proofs::Fronts::front_stop, crate::proofs::Fronts::front_end))]
+fn digits(text: &[u8]) -> Run
+    ensures width { result.width ≡ length (front text.now) }
+    ensures size { result.size ≡ worth 0 (front text.now) }
+    ensures most { result.size ≤ 10000000000 }
+    ensures within { result.width ≤ length text.now }
 {
-    &text[..width(text)]
+    let mut size = 0;
+    let mut width = 0;
+    for c in text {
+        if !c.is_ascii_digit() {
+            break;
+        }
+        size = (size * 10 + u64::from(c - b'0')).min(MOST);
+        width += 1;
+    }
+    Run { size, width }
 }
 
 /// Whether digits write a number with no leading zero.
@@ -32,26 +41,8 @@ fn is_plain(digits: &[u8]) -> bool
     !digits.is_empty() && (digits[0] != b'0' || digits.len() == 1)
 }
 
-/// The number that digits write.
-fn worth(digits: &[u8]) -> u64
-    ensures value { result ≡ worth 0 digits.now }
-    ensures most { result ≤ 10000000000 }
-{
-    let mut size = 0;
-    for c in digits {
-        size = (size * 10 + u64::from(c.saturating_sub(b'0'))).min(MOST);
-    }
-    size
-}
-
-/// The number that digits write, and how many digits there are.
-#[derive(Clone, Copy)]
-struct Run {
-    size: u64,
-    width: usize,
-}
-
 /// Digits with no leading zero.
+#[tactic(auto, using(crate::proofs::Fronts::front_taken))]
 fn unsigned(text: &[u8]) -> Option<Run>
     ensures { MatchOption result
         (plain (front text.now) ≡ false)
@@ -61,11 +52,8 @@ fn unsigned(text: &[u8]) -> Option<Run>
         × (n.size ≤ 10000000000)
         × (n.width ≤ length text.now)) }
 {
-    let digits = digits(text);
-    is_plain(digits).then_some(Run {
-        size: worth(digits),
-        width: digits.len(),
-    })
+    let run = digits(text);
+    is_plain(&text[..run.width]).then_some(run)
 }
 
 /// The number that a text begins with, and how many bytes it takes. One whose size is past 10,000,000,000 is read as of that size, which no range reaches.
