@@ -83,8 +83,9 @@ impl Definition<'_> {
             ≡ (if is_ok result then Some (begun self.entry.begun) else None) }
     {
         let Definition { sheet, begun } = self;
-        let completed = Table::try_from(begun);
-        sheet.table = completed.ok();
-        completed.map(|_| ()).map_err(refused)
+        sheet.table = None;
+        // The table goes straight into the sheet: a result that is looked at twice would be copied twice.
+        sheet.table = Some(Table::try_from(begun).map_err(refused)?);
+        Ok(())
     }
 }
